@@ -1,0 +1,5 @@
+pub mod Same
+pub mod Places
+pub mod Wrote
+pub mod Numbers
+pub mod Integers

@@ -1,0 +1,53 @@
+-- Laws of parts that are written one after another. Assumes nothing.
+use mathlib.Core.Path.{_≡_, refl, sym, ap, _∙_}
+use mathlib.Core.List.{List, [], _++_, append-assoc, append-nil}
+use Prim.Native.Nat.{ℕ, _+_, _-_, _≤_}
+use native.Mathlib.Nat.{add-assoc, zero-add, add-zero}
+use native.Mathlib.Omega.{arith}
+use lib.ListN.{length, take, drop, length-append, length-drop, take-append-drop, drop-of-length-le}
+use lib.Seq.{take-at, take-all, drop-drop, drop-append-add, length-take-le}
+use Rattle.lists.specs.Write.{over, splice}
+
+-- xs is out with w written into it from at to k. A record, so that antt finds the lists at each use
+pub record Wrote (out : List ℕ) (at : ℕ) (w : List ℕ) (k : ℕ) (xs : List ℕ) : Type 0 where
+  pub room : at ≤ length out
+  pub ends : k ≡ at + length w
+  pub is : xs ≡ splice out at w
+
+-- nothing is written yet
+pub start : (out : List ℕ) (at : ℕ) → at ≤ length out → Wrote out at [] at out
+start out at h = record { room = h; ends = omega arith; is = sym (rw (append-nil, add-zero, take-append-drop)) }
+
+-- THE law: p was written where w ends
+pub next : {out xs ys w : List ℕ} {at k r : ℕ} → Wrote out at w k xs → (p : List ℕ) → (r ≡ k + length p) × (ys ≡ splice xs k p) → Wrote out at (w ++ p) r ys
+next {out} {xs} {ys} {w} {at} {k} {r} x p y =
+    let fits : at ≤ length out = x .room in
+    let head : length (take at out ++ w) ≡ k = simp (length-append, length-take-le) (omega arith) in
+    let front : take k xs ≡ take at out ++ w = rw (x .is) (take-at _ _ k head) in
+    let back : drop (k + length p) xs ≡ drop (at + length (w ++ p)) out = rw (x .is, ← head, drop-append-add, drop-drop, length-append, add-assoc) in
+    record { room = fits; ends = simp length-append (omega arith); is = y .1 ∙ rw (front, back) (simp append-assoc) }
+
+-- what a function that writes from at ensures
+pub done : {out xs w : List ℕ} {at k : ℕ} → Wrote out at w k xs → (k ≡ at + length w) × (xs ≡ splice out at w)
+done x = (x .ends, x .is)
+
+-- what a function that writes from the start ensures
+pub from-start : {w out xs : List ℕ} {k : ℕ} → Wrote out 0 w k xs → xs ≡ over w out
+from-start x = x .is ∙ rw zero-add
+
+-- ---- the rest of an output, lent to a callee as `&mut out[at..]`, and what came back
+
+module _ (out : List ℕ) (at : ℕ) where
+  -- the rest, as the callee gets it
+  pub rest : take (length out - at) (drop at out) ≡ drop at out
+  rest = take-all (length out - at) (drop at out) (rw length-drop (omega arith))
+
+  pub length-rest : length (take (length out - at) (drop at out)) ≡ length out - at
+  length-rest = ap length rest ∙ length-drop at out
+
+  -- a callee that writes w to the front of the rest has written w from at
+  pub home : (w ys : List ℕ) → ys ≡ over w (take (length out - at) (drop at out)) → take at out ++ (ys ++ drop (length out - at) (drop at out)) ≡ splice out at w
+  home w ys e =
+      let y : ys ≡ w ++ drop (at + length w) out = e ∙ rw (rest, drop-drop) in
+      let n : drop (length out - at) (drop at out) ≡ [] = drop-of-length-le (drop at out) {i = length out - at} (rw length-drop (omega arith)) in
+      rw (y, n, append-nil) (simp append-assoc)

@@ -1,0 +1,86 @@
+// Bytes compared, searched and copied. Nothing here knows a format.
+ghost use mathlib.Core.Path.{_≡_};
+ghost use Prim.Native.Nat.{_≤_, _+_, _-_};
+ghost use lib.ListN.{length, drop};
+ghost use Rattle.lists.specs.Bytes.{same, startsWith, placeOf};
+ghost use Rattle.lists.specs.Write.{splice, part};
+ghost use Rattle.lists.specs.Le.{u32le};
+
+// Whether the two hold the same bytes.
+pub fn equal(a: &[u8], b: &[u8]) -> bool
+    ensures { λ r. ⌜ r ≡ same (now (a .entry)) (now (b .entry)) ⌝ }
+{
+    if a.len() != b.len() {
+        return false;
+    }
+    starts_with(a, 0, b)
+}
+
+// Whether the bytes of `text` stand in `s` from `at`.
+pub fn starts_with(s: &[u8], at: usize, text: &[u8]) -> bool
+    ensures { λ r. ⌜ r ≡ startsWith (now (text .entry)) (drop at (now (s .entry))) ⌝ }
+{
+    if s.len() < at {
+        return text.len() == 0;
+    }
+    if s.len() - at < text.len() {
+        return false;
+    }
+    let mut i = 0;
+    while i < text.len() {
+        if text[i] != s[at + i] {
+            return false;
+        }
+        i += 1;
+    }
+    true
+}
+
+// The place of the first `byte` from `at`, or the end where there is none.
+pub fn find_byte(s: &[u8], at: usize, byte: u8) -> usize
+    ensures { λ r. ⌜ r ≡ at + placeOf byte (drop at (now (s .entry))) ⌝ }
+{
+    let mut i = at;
+    while i < s.len() {
+        if s[i] == byte {
+            return i;
+        }
+        i += 1;
+    }
+    i
+}
+
+// Writes all of `src` into `out` from `at`, and answers where it ends.
+pub fn put(out: &mut [u8], at: usize, src: &[u8]) -> usize
+    requires { ⌜ at + length (now src) ≤ length (now out) ⌝ }
+    ensures { λ r. ⌜ (r ≡ at + length (now (src .entry))) × (now (out .exit) ≡ splice (now (out .entry)) at (now (src .entry))) ⌝ }
+{
+    let mut i = 0;
+    while i < src.len() {
+        out[at + i] = src[i];
+        i += 1;
+    }
+    at + i
+}
+
+// Writes the part of `src` between two places into `out` from `at`.
+pub fn put_part(out: &mut [u8], at: usize, src: &[u8], from: usize, to: usize) -> usize
+    requires { ⌜ (from ≤ to) × (to ≤ length (now src)) × (at + (to - from) ≤ length (now out)) ⌝ }
+    ensures { λ r. ⌜ (r ≡ at + length (part from to (now (src .entry)))) × (now (out .exit) ≡ splice (now (out .entry)) at (part from to (now (src .entry)))) × (r ≡ at + (to - from)) ⌝ }
+{
+    put(out, at, &src[from..to])
+}
+
+// Writes the four bytes of `x` into `out` from `at`, the least first.
+pub fn put_u32_le(out: &mut [u8], at: usize, x: u32) -> usize
+    requires { ⌜ at + 4 ≤ length (now out) ⌝ }
+    ensures { λ r. ⌜ (r ≡ at + 4) × (now (out .exit) ≡ splice (now (out .entry)) at (u32le x)) ⌝ }
+{
+    let bytes = [
+        (x % 256) as u8,
+        (x / 256 % 256) as u8,
+        (x / 256 / 256 % 256) as u8,
+        (x / 256 / 256 / 256 % 256) as u8,
+    ];
+    put(out, at, &bytes)
+}

@@ -1,0 +1,17 @@
+-- The limits of document 01's table of replies.
+use Prim.Native.Nat.{ℕ}
+
+-- refusal 1, and 5 for a result
+abbrev pub fileLimit : ℕ
+fileLimit = 16777216
+
+-- refusal 1 of the listing
+abbrev pub listingLimit : ℕ
+listingLimit = 16384
+
+-- refusal 6: items of a new tag, and their bytes
+abbrev pub countLimit : ℕ
+countLimit = 256
+
+abbrev pub areaLimit : ℕ
+areaLimit = 32768
