@@ -32,8 +32,7 @@ fn fail(text: &str) -> ! {
 fn folder(name: &str, default: PathBuf) -> PathBuf {
     println!("cargo:rerun-if-env-changed={name}");
     let path = env::var_os(name).map(PathBuf::from).unwrap_or(default);
-    fs::canonicalize(&path)
-        .unwrap_or_else(|_| fail(&format!("{} is not there (set {name})", path.display())))
+    fs::canonicalize(&path).unwrap_or_else(|_| fail(&format!("{} is not there (set {name})", path.display())))
 }
 
 fn main() {
@@ -44,29 +43,18 @@ fn main() {
 
     let ape = source.join("ape.rs");
     let frame = source.join("frame.rs");
-    let text =
-        fs::read_to_string(&ape).unwrap_or_else(|e| fail(&format!("{}: {e}", ape.display())));
+    let text = fs::read_to_string(&ape).unwrap_or_else(|e| fail(&format!("{}: {e}", ape.display())));
     let copy = out.join("ape.rs");
     fs::write(&copy, text + REACH).unwrap();
 
     let module = |name: &str, path: &Path| {
-        format!(
-            "#[allow(dead_code)]\n#[path = {:?}]\nmod {name};\n",
-            path.display().to_string()
-        )
+        format!("#[allow(dead_code)]\n#[path = {:?}]\nmod {name};\n", path.display().to_string())
     };
-    fs::write(
-        out.join("published.rs"),
-        module("ape", &copy) + &module("frame", &frame),
-    )
-    .unwrap();
+    fs::write(out.join("published.rs"), module("ape", &copy) + &module("frame", &frame)).unwrap();
 
     println!("cargo:rerun-if-changed={}", ape.display());
     println!("cargo:rerun-if-changed={}", frame.display());
-    println!(
-        "cargo:rerun-if-changed={}",
-        archive.join("libc_api.a").display()
-    );
+    println!("cargo:rerun-if-changed={}", archive.join("libc_api.a").display());
     println!("cargo:rustc-link-search=native={}", archive.display());
     println!("cargo:rustc-link-lib=static=c_api");
 }

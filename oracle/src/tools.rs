@@ -55,12 +55,7 @@ pub struct Compare {
 
 impl Compare {
     pub fn new(name: &'static str, seed: u64, count: u64) -> Self {
-        Compare {
-            name,
-            rng: Rng::new(seed),
-            count,
-            inputs: 0,
-        }
+        Compare { name, rng: Rng::new(seed), count, inputs: 0 }
     }
 
     fn differ<A: Debug>(&self, what: &str, input: &str, published: A, ours: A) -> ! {
@@ -108,12 +103,7 @@ impl Compare {
                 }
             }
         }
-        self.differ(
-            what,
-            &format!("hex {}", hex(&small)),
-            published(&small),
-            ours(&small),
-        );
+        self.differ(what, &format!("hex {}", hex(&small)), published(&small), ours(&small));
     }
 
     /// Both sides on a list of numbers. Where they differ, each number is brought nearer to 0 while they still do.
@@ -134,14 +124,11 @@ impl Compare {
             loop {
                 let now = small[at];
                 let nearer = [0, now / 2, now - now.signum()];
-                let better = nearer
-                    .into_iter()
-                    .filter(|v| v.abs() < now.abs())
-                    .find(|&v| {
-                        let mut other = small.clone();
-                        other[at] = v;
-                        differs(&other)
-                    });
+                let better = nearer.into_iter().filter(|v| v.abs() < now.abs()).find(|&v| {
+                    let mut other = small.clone();
+                    other[at] = v;
+                    differs(&other)
+                });
                 match better {
                     Some(v) => small[at] = v,
                     None => break,
@@ -161,13 +148,8 @@ pub struct Record {
 
 impl Record {
     pub fn new(name: &'static str, seed: u64) -> Self {
-        let text =
-            format!("# The published Rust's answers, written by `oracle record --seed {seed}`.\n");
-        Record {
-            name,
-            rng: Rng::new(seed),
-            text,
-        }
+        let text = format!("# The published Rust's answers, written by `oracle record --seed {seed}`.\n");
+        Record { name, rng: Rng::new(seed), text }
     }
 
     pub fn line(&mut self, words: &[String]) {
@@ -175,26 +157,27 @@ impl Record {
         self.text.push('\n');
     }
 
-    pub fn write(&self, into: &Path) {
-        let file = into.join(format!("{}_vectors", self.name)).join("stdin");
-        assert!(
-            self.text.len() < 1 << 20,
-            "the replaying program has room for 1 MiB"
-        );
-        std::fs::write(&file, &self.text).unwrap_or_else(|e| panic!("{}: {e}", file.display()));
-        println!(
-            "{}: {} lines",
-            file.display(),
-            self.text.lines().count() - 1
-        );
+    /// Writes the list, or, to check, holds the written one against it.
+    pub fn finish(&self, check: bool) {
+        assert!(self.text.len() < 1 << 20, "the replaying program has room for 1 MiB");
+        let crates = Path::new(env!("CARGO_MANIFEST_DIR")).join("../crates");
+        let file = crates.join(format!("{}_vectors", self.name)).join("stdin");
+        let fail = |text: &str| -> ! {
+            println!("oracle: {}_vectors/stdin {text}", self.name);
+            std::process::exit(1)
+        };
+        if !check {
+            std::fs::write(&file, &self.text).unwrap_or_else(|e| fail(&e.to_string()));
+        } else if std::fs::read_to_string(&file).unwrap_or_else(|e| fail(&e.to_string())) != self.text {
+            fail("is not what `oracle record` writes");
+        }
+        println!("{}: {} recorded answers", self.name, self.text.lines().count() - 1);
     }
 }
 
 /// A digest of answers (FNV-1a, 64 bits), for answers too many to write out.
 pub fn digest(bytes: impl Iterator<Item = u8>) -> u64 {
-    bytes.fold(0xCBF2_9CE4_8422_2325, |h, b| {
-        (h ^ b as u64).wrapping_mul(0x0000_0100_0000_01B3)
-    })
+    bytes.fold(0xCBF2_9CE4_8422_2325, |h, b| (h ^ b as u64).wrapping_mul(0x0000_0100_0000_01B3))
 }
 
 /// Times of both sides, measured in turn.
@@ -208,12 +191,7 @@ impl Bench {
     }
 
     /// The best time of many rounds, the two sides in turn, each round some milliseconds long.
-    pub fn row<A, B>(
-        &mut self,
-        what: &str,
-        mut published: impl FnMut() -> A,
-        mut ours: impl FnMut() -> B,
-    ) {
+    pub fn row<A, B>(&mut self, what: &str, mut published: impl FnMut() -> A, mut ours: impl FnMut() -> B) {
         fn once<T>(f: &mut impl FnMut() -> T, turns: u32) -> f64 {
             let start = Instant::now();
             for _ in 0..turns {

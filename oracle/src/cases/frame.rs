@@ -1,31 +1,18 @@
 //! Crate `frame`: numbers of four bytes, ID3v1 blocks, where a tag starts, and how a gain moves.
 
 use super::Case;
-use crate::frame::{
-    adjust_gain_value, ape_tag_start, ends_with_id3v1, read_u32_le, GainMode, APE_PREAMBLE,
-};
+use crate::frame::{adjust_gain_value, ape_tag_start, ends_with_id3v1, read_u32_le, GainMode, APE_PREAMBLE};
 use crate::tools::{digest, hex, Bench, Compare, Record};
 use std::hint::black_box;
 
-pub const CASE: Case = Case {
-    name: "frame",
-    record,
-    compare,
-    bench,
-};
+pub const CASE: Case = Case { name: "frame", record, compare, bench };
 
 /// The declarations of `include/zibrunnos.h`, as Rust.
 mod library {
     extern "C" {
         fn zib_read_u32_le(bytes: *const u8, length: usize, at: usize, value: *mut u32) -> bool;
         fn zib_ends_with_id3v1(file: *const u8, length: usize) -> bool;
-        fn zib_ape_tag_start(
-            file: *const u8,
-            length: usize,
-            footer: usize,
-            there: *mut u32,
-            start: *mut usize,
-        ) -> u32;
+        fn zib_ape_tag_start(file: *const u8, length: usize, footer: usize, there: *mut u32, start: *mut usize) -> u32;
         fn zib_adjust_gain_value(current: u8, steps: i32, wrap: bool) -> u8;
     }
 
@@ -44,8 +31,7 @@ mod library {
     pub fn ape_tag_start(file: &[u8], footer: usize) -> Option<usize> {
         let (mut there, mut start) = (7, 7);
         // SAFETY: as above.
-        let reply =
-            unsafe { zib_ape_tag_start(file.as_ptr(), file.len(), footer, &mut there, &mut start) };
+        let reply = unsafe { zib_ape_tag_start(file.as_ptr(), file.len(), footer, &mut there, &mut start) };
         assert_eq!(reply, 0);
         (there == 1).then_some(start)
     }
@@ -87,22 +73,7 @@ fn footed(before: usize, size: u32, flags: u32) -> Vec<u8> {
     file
 }
 
-const SIZES: [u32; 14] = [
-    0,
-    1,
-    31,
-    32,
-    33,
-    63,
-    64,
-    65,
-    100,
-    127,
-    128,
-    129,
-    0x7FFF_FFFF,
-    u32::MAX,
-];
+const SIZES: [u32; 14] = [0, 1, 31, 32, 33, 63, 64, 65, 100, 127, 128, 129, 0x7FFF_FFFF, u32::MAX];
 const FLAGS: [u32; 6] = [0, 1, 0x2000_0000, 0x7FFF_FFFF, 0x8000_0000, u32::MAX];
 
 fn published_start(file: &[u8]) -> Option<usize> {
@@ -133,12 +104,7 @@ fn compare(c: &mut Compare) {
             for (i, b) in b"TAG".iter().enumerate().take(length - at) {
                 file[at + i] = *b;
             }
-            c.bytes(
-                "ends_with_id3v1",
-                &file,
-                ends_with_id3v1,
-                library::ends_with_id3v1,
-            );
+            c.bytes("ends_with_id3v1", &file, ends_with_id3v1, library::ends_with_id3v1);
         }
     }
     for before in 0..160 {
@@ -163,22 +129,12 @@ fn compare(c: &mut Compare) {
             |a| library::adjust_gain_value(a[0] as u8, a[1] as i32, a[2] == 1),
         );
         let four = c.rng.bytes(4);
-        c.bytes(
-            "read_u32_le",
-            &four,
-            |s| (s.len() >= 4).then(|| read_u32_le(s)),
-            library::read_u32_le,
-        );
+        c.bytes("read_u32_le", &four, |s| (s.len() >= 4).then(|| read_u32_le(s)), library::read_u32_le);
     }
     for _ in 0..c.count / 10 {
         let n = c.rng.below(400);
         let file = c.rng.bytes(n);
-        c.bytes(
-            "ape_tag_start of the footer at EOF-32",
-            &file,
-            published_start,
-            our_start,
-        );
+        c.bytes("ape_tag_start of the footer at EOF-32", &file, published_start, our_start);
     }
 }
 
@@ -190,22 +146,8 @@ fn record(r: &mut Record) {
             let all = digest((0..=255).map(|g| published_adjust(g, steps, wrap)));
             r.line(&words(&[&"gains", &flag, &steps, &format!("{all:016x}")]));
         }
-        for (current, steps) in [
-            (0, 9),
-            (250, 10),
-            (3, -9),
-            (255, 1),
-            (1, -1),
-            (128, -300),
-            (128, 300),
-        ] {
-            r.line(&words(&[
-                &"gain",
-                &flag,
-                &current,
-                &steps,
-                &published_adjust(current, steps, wrap),
-            ]));
+        for (current, steps) in [(0, 9), (250, 10), (3, -9), (255, 1), (1, -1), (128, -300), (128, 300)] {
+            r.line(&words(&[&"gain", &flag, &current, &steps, &published_adjust(current, steps, wrap)]));
         }
     }
     for before in [0, 1, 31, 32, 33, 64, 100] {
@@ -217,23 +159,12 @@ fn record(r: &mut Record) {
             }
         }
     }
-    for (before, mark) in [
-        (0, "TAG"),
-        (1, "TAG"),
-        (3, "TAGTAG"),
-        (2, "TAf"),
-        (0, "TA"),
-        (5, "TAG"),
-    ] {
+    for (before, mark) in [(0, "TAG"), (1, "TAG"), (3, "TAGTAG"), (2, "TAf"), (0, "TA"), (5, "TAG")] {
         for after in [124, 125, 126] {
             let mut file = vec![1; before];
             file.extend_from_slice(mark.as_bytes());
             file.resize(file.len() + after, 0);
-            r.line(&words(&[
-                &"id3v1",
-                &hex(&file),
-                &(ends_with_id3v1(&file) as u8),
-            ]));
+            r.line(&words(&[&"id3v1", &hex(&file), &(ends_with_id3v1(&file) as u8)]));
         }
     }
     for _ in 0..40 {
@@ -251,11 +182,7 @@ fn bench(b: &mut Bench) {
         b.row(
             &format!("adjust_gain_value, 10,000 gains, {flag}"),
             || sum(&gains, |g| published_adjust(g, black_box(-7), wrap)),
-            || {
-                sum(&gains, |g| {
-                    library::adjust_gain_value(g, black_box(-7), wrap)
-                })
-            },
+            || sum(&gains, |g| library::adjust_gain_value(g, black_box(-7), wrap)),
         );
     }
 }
