@@ -1,0 +1,9 @@
+pub mod Rule
+pub mod Lists
+pub mod Laws
+pub mod Maximal
+pub mod Samples
+pub mod Steps
+pub mod Turn
+pub mod Stretch
+pub mod Written

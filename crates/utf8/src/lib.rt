@@ -1,0 +1,189 @@
+// UTF-8 by the Unicode standard: what stands at a place of a text, whether a text is well formed, and the text with U+FFFD in place of each ill-formed part.
+ghost use mathlib.Core.Path.{_≡_};
+ghost use Prim.Native.Nat.{_≤_, _+_};
+ghost use lib.ListN.{length, drop};
+ghost use Rattle.lists.specs.Write.{over, splice};
+ghost use Rattle.utf8.specs.Utf8.{class, numberOf, classAt, Classes, begins, stepOf, valid, lossy};
+ghost use Rattle.utf8.specs.Runs.{Stretch, Ran};
+ghost use Rattle.utf8.specs.Write.{answer, bytes, within};
+
+mod table;
+
+// What a first byte says: how many bytes follow it, and from which to which the next one lies.
+pub struct Class {
+    pub more: u8,
+    pub low: u8,
+    pub high: u8,
+}
+
+// What stands at a place: a character of so many bytes, an ill-formed part of so many, or the end.
+pub enum Part {
+    Good(usize),
+    Bad(usize),
+    End,
+}
+
+// Where characters end, and how many bytes the ill-formed part there has.
+pub struct Run {
+    pub end: usize,
+    pub bad: usize,
+}
+
+// How many bytes there are, or that there is no room for them.
+pub enum Converted {
+    Done(usize),
+    NoRoom,
+}
+
+// The table of class numbers. A public call takes it once and lends it to what it calls.
+pub fn class_table() -> [u8; 256]
+    ensures { λ r. ⌜ Classes r ⌝ }
+{
+    table::CLASS
+}
+
+fn wide(x: u8) -> usize
+    ensures { λ r. ⌜ r ≡ x ⌝ }
+{
+    x as usize
+}
+
+fn says(more: u8, low: u8, high: u8) -> Class
+    ensures { λ r. ⌜ r ≡ class more low high ⌝ }
+{
+    Class { more, low, high }
+}
+
+// What the class of this number says. A byte that begins nothing is to be followed by one from 1 to 0, which none is.
+fn class_at(k: u8) -> Class
+    ensures { λ r. ⌜ (r ≡ classAt k) × (r .more ≤ 3) ⌝ }
+{
+    match k {
+        0 => says(0, 0x80, 0xBF),
+        1 => says(1, 0x80, 0xBF),
+        2 => says(2, 0xA0, 0xBF),
+        3 => says(2, 0x80, 0xBF),
+        4 => says(2, 0x80, 0x9F),
+        5 => says(2, 0x80, 0xBF),
+        6 => says(3, 0x90, 0xBF),
+        7 => says(3, 0x80, 0xBF),
+        8 => says(3, 0x80, 0x8F),
+        _ => says(1, 1, 0),
+    }
+}
+
+fn class_of(table: &[u8; 256], b: u8) -> Class
+    requires { ⌜ Classes (now table) ⌝ }
+    ensures { λ r. ⌜ (r ≡ classAt (numberOf b)) × (r .more ≤ 3) ⌝ }
+{
+    let n = wide(b);
+    class_at(table[n])
+}
+
+// Does a byte from low to high stand at this place?
+fn follows(s: &[u8], at: usize, low: u8, high: u8) -> bool
+    ensures { λ r. ⌜ r ≡ begins low high (drop at (now (s .entry))) ⌝ }
+{
+    if at >= s.len() {
+        return false;
+    }
+    if s[at] < low {
+        return false;
+    }
+    s[at] <= high
+}
+
+// What stands at this place.
+pub fn step_by(table: &[u8; 256], s: &[u8], at: usize) -> Part
+    requires { ⌜ Classes (now table) ⌝ }
+    ensures { λ r. ⌜ r ≡ stepOf (drop at (now (s .entry))) ⌝ }
+{
+    if at >= s.len() {
+        return Part::End;
+    }
+    let c = class_of(table, s[at]);
+    let more = c.more;
+    if more == 0 {
+        return Part::Good(1);
+    }
+    let second = at + 1;
+    if !follows(s, second, c.low, c.high) {
+        return Part::Bad(1);
+    }
+    if more == 1 {
+        return Part::Good(2);
+    }
+    let third = second + 1;
+    if !follows(s, third, 0x80, 0xBF) {
+        return Part::Bad(2);
+    }
+    if more == 2 {
+        return Part::Good(3);
+    }
+    let fourth = third + 1;
+    if !follows(s, fourth, 0x80, 0xBF) {
+        return Part::Bad(3);
+    }
+    Part::Good(4)
+}
+
+pub fn step(s: &[u8], at: usize) -> Part
+    ensures { λ r. ⌜ r ≡ stepOf (drop at (now (s .entry))) ⌝ }
+{
+    let table = class_table();
+    step_by(&table, s, at)
+}
+
+// Where the ASCII from here ends.
+fn plain_end(s: &[u8], from: usize) -> usize
+    requires { ⌜ from ≤ length (now s) ⌝ }
+    ensures { λ r. ⌜ Stretch (now (s .entry)) from r ⌝ }
+{
+    let mut at = from;
+    while at < s.len() {
+        if s[at] >= 0x80 {
+            return at;
+        }
+        at += 1;
+    }
+    at
+}
+
+// Where the characters from here end, and how many bytes the ill-formed part there has: none at the end of the text.
+fn run_from(table: &[u8; 256], s: &[u8], from: usize) -> Run
+    requires { ⌜ (Classes (now table)) × (from ≤ length (now s)) ⌝ }
+    ensures { λ r. ⌜ Ran (now (s .entry)) from (r .end) (r .bad) ⌝ }
+{
+    let mut at = from;
+    loop {
+        let p = plain_end(s, at);
+        let x = step_by(table, s, p);
+        match x {
+            Part::Good(n) => {
+                at = p + n;
+            }
+            Part::Bad(n) => {
+                return Run { end: p, bad: n };
+            }
+            Part::End => {
+                return Run { end: p, bad: 0 };
+            }
+        }
+    }
+}
+
+// Is this well-formed UTF-8?
+pub fn is_utf8_by(table: &[u8; 256], s: &[u8]) -> bool
+    requires { ⌜ Classes (now table) ⌝ }
+    ensures { λ r. ⌜ r ≡ valid (now (s .entry)) ⌝ }
+{
+    let r = run_from(table, s, 0);
+    r.bad == 0
+}
+
+pub fn is_utf8(s: &[u8]) -> bool
+    ensures { λ r. ⌜ r ≡ valid (now (s .entry)) ⌝ }
+{
+    let table = class_table();
+    is_utf8_by(&table, s)
+}
