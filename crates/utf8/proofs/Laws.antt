@@ -173,12 +173,6 @@ module _ (s : List ℕ) (b : ℕ) where
   valid-text (Bad n) e t v = unfold stepOf run classAt numberOf in v
   valid-text End e t v = v
 
-  text-length : (x : Part) → length (textOf x (b ∷ s)) + 3 * (length s - after (size x)) ≤ 3 * suc (length s)
-  text-length (Good zero) = omega arith
-  text-length (Good (suc n)) = omega (arith, length-take n s)
-  text-length (Bad n) = omega arith
-  text-length End = omega arith
-
 pub valid-char : (s : List ℕ) (n : ℕ) → stepOf s ≡ Good n → valid (take n s) ≡ true
 unfolding valid
 valid-char [] n e = let q : stepOf [] ≡ End = unfold stepOf in refl in let z : _≡_ {A = ℕ} 0 1 = cc in absurd (omega arith)
@@ -200,18 +194,6 @@ valid-same s e = ap valid (sym e) ∙ valid-lossy s
 
 pub lossy-lossy : (s : List ℕ) → lossy (lossy s) ≡ lossy s
 lossy-lossy s = lossy-valid (lossy s) (valid-lossy s)
-
-length-lossyFrom : (s : List ℕ) (k : ℕ) → length (lossyFrom k s) ≤ 3 * (length s - k)
-unfolding lossyFrom
-length-lossyFrom [] k = omega arith
-length-lossyFrom (b ∷ s) (suc k) = omega (arith, length-lossyFrom s k)
-length-lossyFrom (b ∷ s) zero =
-    let x = stepOf (b ∷ s) in
-    simp length-append (omega (arith, text-length s b x, length-lossyFrom s (after (size x))))
-
-pub length-lossy : (s : List ℕ) → length (lossy s) ≤ 3 * length s
-unfolding lossy
-length-lossy s = omega (arith, length-lossyFrom s 0)
 
 -- bytes stay bytes
 module _ (s : List ℕ) (b : ℕ) (h : Small (b ∷ s)) where

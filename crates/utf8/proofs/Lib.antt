@@ -2,6 +2,7 @@ pub mod Rule
 pub mod Lists
 pub mod Laws
 pub mod Maximal
+pub mod Sizes
 pub mod Samples
 pub mod Steps
 pub mod Turn

@@ -46,7 +46,7 @@ run-starts zero low high k m s p e = absurd (omega arith)
 run-starts (suc n) low high k m [] p e = absurd (omega arith)
 run-starts (suc n) low high k m (b ∷ s) p e = goes-on (among low high b) _ _ k n e (λ f. run-fills n k m s (omega arith) f)
 
-run-bound : (n low high : ℕ) (s : List ℕ) → run n low high s ≤ n
+pub run-bound : (n low high : ℕ) (s : List ℕ) → run n low high s ≤ n
 unfolding run
 run-bound zero low high s = omega arith
 run-bound (suc n) low high [] = omega arith
@@ -59,7 +59,7 @@ pub record Maximal (b : ℕ) (s : List ℕ) (k : ℕ) : Type 0 where
   pub begins : (k ≡ 0) ⊎ ((t : List ℕ) × (stepOf (b ∷ (take k s ++ t)) ≡ Good (suc (k + length t))))
   pub longest : k < length s → (t : List ℕ) → stepOf (b ∷ (take (suc k) s ++ t)) ≡ Bad (suc k)
 
-judged-bad : (m n k : ℕ) → judged m n ≡ Bad (suc k) → (n ≡ k) × (eqb n m ≡ false)
+pub judged-bad : (m n k : ℕ) → judged m n ≡ Bad (suc k) → (n ≡ k) × (eqb n m ≡ false)
 judged-bad m n k h = go (eqb n m) refl h
   where
     go : (t : Bool) → eqb n m ≡ t → cond t (Good (suc n)) (Bad (suc n)) ≡ Bad (suc k) → (n ≡ k) × (eqb n m ≡ false)

@@ -5,11 +5,11 @@ use native.Mathlib.Omega.{arith}
 use mathlib.Core.Path.{_≡_, refl, sym, ap, _∙_}
 use mathlib.Core.Bool.{Bool, true, _&&_, and-eq-true-iff}
 use mathlib.Core.List.{List, [], _∷_}
-use lib.Dec.{eqb}
+use lib.Dec.{leb, eqb}
 use lib.ListN.{length, getD}
-use borrow.Author.Tests.{eqb-true}
+use borrow.Author.Tests.{leb-true, eqb-true}
 use Rattle.utf8.specs.declared.Class.{Class}
-use Rattle.utf8.specs.Utf8.{numberOf, classAt, Classes}
+use Rattle.utf8.specs.Utf8.{Row, rows, no-row, numberOf, classAt, Classes}
 
 -- each entry is the class number of its place, counted from i
 abbrev pub right : ℕ → List ℕ → Bool
@@ -27,9 +27,25 @@ pub classes : (t : List ℕ) → length t ≡ 256 → right 0 t ≡ true → Cla
 classes t l e = record { rule = λ b h. entry t 0 e b (rw l h) ∙ ap numberOf (zero-add b) }
 
 -- an answer for the number k that is right for i, which k is
-pub at-row : {r : Class} {k : ℕ} (i : ℕ) → k ≡ i → r ≡ classAt i → classAt i .more ≤ 3 → (r ≡ classAt k) × (r .more ≤ 3)
-at-row i h e m = (e ∙ ap classAt (sym h), rw e m)
+pub at-row : {r : Class} {k : ℕ} (i : ℕ) → k ≡ i → r ≡ classAt i → r ≡ classAt k
+at-row i h e = e ∙ ap classAt (sym h)
 
 -- a number that is not m, nor one below it
 pub above : (m : ℕ) {k : ℕ} → m ≤ k → (k ≡ m → ⊥) → suc m ≤ k
 above m h n = omega arith
+
+-- ---- how many bytes follow a first byte
+
+abbrev short : List Row → Bool
+short [] = true
+short (r ∷ rs) = leb (r .says .more) 3 && short rs
+
+few-in : (rs : List Row) (k : ℕ) → short rs ≡ true → getD rs k no-row .says .more ≤ 3
+few-in [] k e = omega arith
+few-in (r ∷ rs) zero e = leb-true (r .says .more) 3 (and-eq-true-iff (leb (r .says .more) 3) (short rs) .0 e .0)
+few-in (r ∷ rs) (suc k) e = few-in rs k (and-eq-true-iff (leb (r .says .more) 3) (short rs) .0 e .1)
+
+-- never more than three
+pub few-follow : (k : ℕ) → classAt k .more ≤ 3
+unfolding classAt
+few-follow k = few-in rows k refl

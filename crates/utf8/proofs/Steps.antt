@@ -12,6 +12,7 @@ use Rattle.utf8.specs.declared.Class.{Class}
 use Rattle.utf8.specs.declared.Part.the-variants.{Good, Bad}
 use Rattle.lists.specs.Bytes.{among}
 use Rattle.utf8.specs.Utf8.{numberOf, classAt, begins, run, judged, stepOf}
+use Rattle.utf8.proofs.Rule.{few-follow}
 
 pub begins-at : (low high : ℕ) (s : List ℕ) (at : ℕ) → at < length s → begins low high (drop at s) ≡ among low high (getD s at 0)
 begins-at low high s at h = rw (drop-cons s at 0)
@@ -31,11 +32,12 @@ bad2 (suc (suc m)) low high x h k e f = rw (e, f, eqb·suc-suc, eqb·zero-suc)
 
 -- what c, the class of the byte at a place, makes of the step there
 pub record Opened (s : List ℕ) (at : ℕ) (c : Class) : Type 0 where
+  pub few : c .more ≤ 3
   pub is : stepOf (drop at s) ≡ judged (c .more) (run (c .more) (c .low) (c .high) (drop (at + 1) s))
 
 pub opened : (s : List ℕ) (at : ℕ) (c : Class) → at < length s → c ≡ classAt (numberOf (getD s at 0)) → Opened s at c
 unfolding stepOf
-opened s at c inside e = record { is = rw (drop-cons s at 0, e, add-one) }
+opened s at c inside e = record { few = rw e (few-follow (numberOf (getD s at 0))); is = rw (drop-cons s at 0, e, add-one) }
 
 module _ {s : List ℕ} {at : ℕ} {c : Class} (o : Opened s at c) where
   pub first-good : c .more ≡ 0 → Good 1 ≡ stepOf (drop at s)

@@ -92,7 +92,7 @@ stops (suc n) h = refl
 
 -- ---- sizes
 
-part-size : {s : List ℕ} {a e : ℕ} → Stretch s a e → length (part a e s) ≡ e - a
+pub part-size : {s : List ℕ} {a e : ℕ} → Stretch s a e → length (part a e s) ≡ e - a
 part-size {s} {a} {e} x = length-part a e s (x .inside)
 
 pub size-stretch : {s : List ℕ} {a e : ℕ} → Stretch s a e → length (lossy (drop a s)) ≡ (e - a) + length (lossy (drop e s))

@@ -1,11 +1,19 @@
--- The loop that writes a text.
-use Prim.Native.Nat.{ℕ, _+_, _≤_}
+-- The loop that writes a text, and what the answers say.
+use Prim.Native.Nat.{ℕ, _+_, _≤_, _<_}
+use native.Mathlib.Nat.{zero-add}
 use native.Mathlib.Omega.{arith}
 use mathlib.Core.Path.{_≡_, refl, sym, ap, _∙_}
+use mathlib.Core.Bool.{Bool, true, false, cond}
+use mathlib.Core.Option.{none, some}
 use mathlib.Core.List.{List, [], _++_, append-assoc}
+use lib.Dec.{ltb}
+use borrow.Author.Tests.{lt-ltb, le-ltb, ltb-true, ltb-false}
 use lib.ListN.{length, drop, length-append}
 use Rattle.utf8.specs.Utf8.{mark, lossy}
-use Rattle.lists.specs.Write.{splice, part}
+use Rattle.lists.specs.Write.{over, splice, part}
+use Rattle.utf8.specs.declared.Converted.{Converted}
+use Rattle.utf8.specs.declared.Converted.the-variants.{Done, NoRoom}
+use Rattle.utf8.specs.Write.{answer, bytes, within}
 use Rattle.utf8.specs.Runs.{Ran}
 use Rattle.lists.proofs.Wrote.{Wrote, start, next}
 use Rattle.utf8.proofs.Stretch.{lossy-stretch, marked, unmarked}
@@ -58,3 +66,31 @@ module _ {s out₀ out : List ℕ} {o₀ at o : ℕ} (x : State s out₀ o₀ ou
         let all : lossy s ≡ x .done ++ part at e s = x .same ∙ ap (λ (m : List ℕ). x .done ++ m) (unmarked r h) in
         let w = next (x .wrote) (part at e s) y in
         (w .ends ∙ rw all, w .is ∙ rw all)
+
+-- ---- the answers
+
+module _ (out w : List ℕ) where
+  -- w was written at the front, where there is room
+  pub converted : {xs : List ℕ} {r : ℕ} → length w ≤ length out → (r ≡ 0 + length w) × (xs ≡ splice out 0 w)
+      → (Done r ≡ answer (within (length out) w)) × (xs ≡ over (bytes (within (length out) w)) out)
+  converted h y = rw (le-ltb _ _ h) (ap Done (y .0 ∙ zero-add _), y .1 ∙ rw zero-add)
+
+  -- there is no room, and nothing was written
+  pub refused : length out < length w → (NoRoom ≡ answer (within (length out) w)) × (out ≡ over (bytes (within (length out) w)) out)
+  refused h = rw (lt-ltb _ _ h) (refl, refl)
+
+-- an answer tells whether there is room
+module _ (w : List ℕ) {x : Converted} where
+  told : (t : Bool) → x ≡ answer (cond t none (some w)) → {n : ℕ} → x ≡ Done n → t ≡ false
+  told true e f = let z : _≡_ {A = ℕ} 0 1 = cc in absurd (omega arith)
+  told false e f = refl
+
+  untold : (t : Bool) → x ≡ answer (cond t none (some w)) → x ≡ NoRoom → t ≡ true
+  untold true e f = refl
+  untold false e f = let z : _≡_ {A = ℕ} 0 1 = cc in absurd (omega arith)
+
+  pub had-room : (room : ℕ) → x ≡ answer (within room w) → {n : ℕ} → x ≡ Done n → length w ≤ room
+  had-room room e f = ltb-false _ _ (told (ltb room (length w)) e f)
+
+  pub had-none : (room : ℕ) → x ≡ answer (within room w) → x ≡ NoRoom → room < length w
+  had-none room e f = ltb-true _ _ (untold (ltb room (length w)) e f)

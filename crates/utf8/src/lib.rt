@@ -56,7 +56,7 @@ fn says(more: u8, low: u8, high: u8) -> Class
 
 // What the class of this number says. A byte that begins nothing is to be followed by one from 1 to 0, which none is.
 fn class_at(k: u8) -> Class
-    ensures { λ r. ⌜ (r ≡ classAt k) × (r .more ≤ 3) ⌝ }
+    ensures { λ r. ⌜ r ≡ classAt k ⌝ }
 {
     match k {
         0 => says(0, 0x80, 0xBF),
@@ -74,7 +74,7 @@ fn class_at(k: u8) -> Class
 
 fn class_of(table: &[u8; 256], b: u8) -> Class
     requires { ⌜ Classes (now table) ⌝ }
-    ensures { λ r. ⌜ (r ≡ classAt (numberOf b)) × (r .more ≤ 3) ⌝ }
+    ensures { λ r. ⌜ r ≡ classAt (numberOf b) ⌝ }
 {
     let n = wide(b);
     class_at(table[n])
@@ -186,4 +186,76 @@ pub fn is_utf8(s: &[u8]) -> bool
 {
     let table = class_table();
     is_utf8_by(&table, s)
+}
+
+// How many bytes the text has with U+FFFD in place of each ill-formed part, where that is at most room.
+pub fn lossy_within(table: &[u8; 256], s: &[u8], room: usize) -> Converted
+    requires { ⌜ Classes (now table) ⌝ }
+    ensures { λ r. ⌜ r ≡ answer (within room (lossy (now (s .entry)))) ⌝ }
+{
+    let mut at = 0;
+    let mut size = 0;
+    loop {
+        let r = run_from(table, s, at);
+        let n = r.end - at;
+        if room - size < n {
+            return Converted::NoRoom;
+        }
+        size += n;
+        if r.bad == 0 {
+            return Converted::Done(size);
+        }
+        if room - size < 3 {
+            return Converted::NoRoom;
+        }
+        size += 3;
+        at = r.end + r.bad;
+    }
+}
+
+pub fn lossy_size(s: &[u8], room: usize) -> Converted
+    ensures { λ r. ⌜ r ≡ answer (within room (lossy (now (s .entry)))) ⌝ }
+{
+    let table = class_table();
+    lossy_within(&table, s, room)
+}
+
+// Writes that text into `out` from `at`, and answers where it ends.
+pub fn lossy_put(table: &[u8; 256], out: &mut [u8], at: usize, s: &[u8]) -> usize
+    requires { ⌜ (Classes (now table)) × (at + length (lossy (now s)) ≤ length (now out)) ⌝ }
+    ensures { λ r. ⌜ (r ≡ at + length (lossy (now (s .entry)))) × (now (out .exit) ≡ splice (now (out .entry)) at (lossy (now (s .entry)))) ⌝ }
+{
+    let mut from = 0;
+    let mut o = at;
+    loop {
+        let r = run_from(table, s, from);
+        let e = r.end;
+        let p = lists::put_part(out, o, s, from, e);
+        if r.bad == 0 {
+            return p;
+        }
+        o = lists::put(out, p, b"\xEF\xBF\xBD");
+        from = e + r.bad;
+    }
+}
+
+// Writes that text at the front of `out` where there is room; else nothing is written. It is at least as long as `s`, at most three times as long, and the same where `s` is UTF-8.
+pub fn lossy_into(s: &[u8], out: &mut [u8]) -> Converted
+    ensures { λ r. ⌜ (r ≡ answer (within (length (now (out .entry))) (lossy (now (s .entry))))) × (now (out .exit) ≡ over (bytes (within (length (now (out .entry))) (lossy (now (s .entry))))) (now (out .entry))) ⌝ }
+{
+    if out.len() < s.len() {
+        return Converted::NoRoom;
+    }
+    let table = class_table();
+    if s.len() <= out.len() / 3 {
+        return Converted::Done(lossy_put(&table, out, 0, s));
+    }
+    if is_utf8_by(&table, s) {
+        return Converted::Done(lists::put(out, 0, s));
+    }
+    let x = lossy_within(&table, s, out.len());
+    let Converted::Done(_) = x else {
+        return Converted::NoRoom;
+    };
+    Converted::Done(lossy_put(&table, out, 0, s))
 }

@@ -10,7 +10,7 @@ returns : tie.Need-returns
 returns c =
     let z = c .before .before .before in
     let e : getD (z .args .table .now) (c .before .before .wide .result) 0 ≡ numberOf (z .args .b) = rw (c .before .before .wide .ensures) (z .pre .rule (z .args .b) (search needs)) in
-    (c .class-at .ensures .0 ∙ ap classAt e, c .class-at .ensures .1)
+    c .class-at .ensures ∙ ap classAt e
 
 pub class-of-spec : {M : Type 1} → statement M
 class-of-spec = tie.close (tie.spec (λ c κs. search needs) (λ c. search needs) (λ c κs. search needs) returns)

@@ -10,7 +10,7 @@ use Rattle.utf8.proofs.step_by.Statement.{statement}
 use Rattle.utf8.proofs.step_by.Tie as tie
 
 opens : (p : tie.After-class-of) → Opened (p .before .before .before .before .args .s .now) (p .before .before .before .before .args .at) (p .class-of .result)
-opens p = opened _ _ _ (omega arith) (p .class-of .ensures .0)
+opens p = opened _ _ _ (omega arith) (p .class-of .ensures)
 
 returns : tie.Need-returns
 unfolding stepOf
@@ -42,14 +42,14 @@ returns-7 c =
     let h = c .before .before .before .before in
     let f = h .before .before .before in
     third-bad (opens (f .before .before)) (sym (f .follows .ensures) ∙ not-false _ (h .before .before .if3 .left))
-    (sym (h .follows2 .ensures) ∙ not-false _ (c .before .before .before .if5 .left)) (omega arith) (sym (c .before .follows3 .ensures) ∙ not-true _ (c .if7 .taken))
+    (sym (h .follows2 .ensures) ∙ not-false _ (c .before .before .before .if5 .left)) (omega (arith, opens (f .before .before) .few)) (sym (c .before .follows3 .ensures) ∙ not-true _ (c .if7 .taken))
 
 returns-8 : tie.Need-returns-8
 returns-8 c =
     let h = c .before .before .before .before in
     let f = h .before .before .before in
     fourth-good (opens (f .before .before)) (sym (f .follows .ensures) ∙ not-false _ (h .before .before .if3 .left))
-    (sym (h .follows2 .ensures) ∙ not-false _ (c .before .before .before .if5 .left)) (omega arith) (sym (c .before .follows3 .ensures) ∙ not-false _ (c .if7 .left))
+    (sym (h .follows2 .ensures) ∙ not-false _ (c .before .before .before .if5 .left)) (omega (arith, opens (f .before .before) .few)) (sym (c .before .follows3 .ensures) ∙ not-false _ (c .if7 .left))
 
 pub step-by-spec : {M : Type 1} → statement M
 step-by-spec =
