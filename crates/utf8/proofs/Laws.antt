@@ -11,7 +11,7 @@ use borrow.Author.Tests.{eqb-true, ltb-true, le-leb, eq-eqb}
 use Rattle.utf8.specs.declared.Part.{Part}
 use Rattle.utf8.specs.declared.Part.the-variants.{Good, Bad, End}
 use Rattle.lists.specs.Bytes.{among, all, Small}
-use Rattle.utf8.specs.Utf8.{numberOf, classAt, run, judged, stepOf, size, after, mark, textOf, whole, lossyFrom, lossy, validFrom, valid, plain}
+use Rattle.utf8.specs.Utf8.{numberOf, classAt, run, judged, follow, stepOf, size, after, mark, textOf, whole, lossyFrom, lossy, validFrom, valid, plain}
 use Rattle.utf8.proofs.Lists.{small-nil, small-append, small-take, small-all}
 
 -- ---- one step

@@ -8,7 +8,6 @@ use mathlib.Core.List.{List, [], _∷_}
 use lib.Dec.{leb, eqb}
 use lib.ListN.{length, getD}
 use borrow.Author.Tests.{leb-true, eqb-true}
-use Rattle.utf8.specs.declared.Class.{Class}
 use Rattle.utf8.specs.Utf8.{Row, rows, no-row, numberOf, classAt, Classes}
 
 -- each entry is the class number of its place, counted from i
@@ -25,10 +24,6 @@ entry (x ∷ t) i e (suc k) h =
 -- a table of 256 entries that passes the test gives each first byte its class number
 pub classes : (t : List ℕ) → length t ≡ 256 → right 0 t ≡ true → Classes t
 classes t l e = record { rule = λ b h. entry t 0 e b (rw l h) ∙ ap numberOf (zero-add b) }
-
--- an answer for the number k that is right for i, which k is
-pub at-row : {r : Class} {k : ℕ} (i : ℕ) → k ≡ i → r ≡ classAt i → r ≡ classAt k
-at-row i h e = e ∙ ap classAt (sym h)
 
 -- a number that is not m, nor one below it
 pub above : (m : ℕ) {k : ℕ} → m ≤ k → (k ≡ m → ⊥) → suc m ≤ k

@@ -6,13 +6,17 @@ use mathlib.Core.List.{List, [], _∷_, _++_}
 use lib.ListN.{getD, take, drop}
 use lib.Dec.{ltb, eqb}
 use Rattle.lists.specs.Bytes.{among, all}
-use Rattle.utf8.specs.declared.Class.{Class}
 use Rattle.utf8.specs.declared.Part.{Part}
 use Rattle.utf8.specs.declared.Part.the-variants.{Good, Bad, End}
 
 -- ---- table 3-7
 
 -- what a first byte says: how many bytes follow it, and from which to which the next one lies
+pub record Class : Type 0 where
+  pub more : ℕ
+  pub low : ℕ
+  pub high : ℕ
+
 abbrev pub class : ℕ → ℕ → ℕ → Class
 class more low high = record { more = more; low = low; high = high }
 
@@ -76,10 +80,14 @@ run (suc n) low high s = cond (begins low high s) (suc (run n 0x80 0xBF (drop 1 
 abbrev pub judged : ℕ → ℕ → Part
 judged more n = cond (eqb n more) (Good (suc n)) (Bad (suc n))
 
+-- what the bytes behind a first byte of this class make of it
+abbrev pub follow : Class → List ℕ → Part
+follow c s = judged (c .more) (run (c .more) (c .low) (c .high) s)
+
 -- the first part of a text
 unfoldable pub stepOf : List ℕ → Part
 stepOf [] = End
-stepOf (b ∷ s) = let c = classAt (numberOf b) in judged (c .more) (run (c .more) (c .low) (c .high) s)
+stepOf (b ∷ s) = follow (classAt (numberOf b)) s
 
 -- how many bytes it has
 abbrev pub size : Part → ℕ

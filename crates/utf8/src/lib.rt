@@ -3,18 +3,11 @@ ghost use mathlib.Core.Path.{_≡_};
 ghost use Prim.Native.Nat.{_≤_, _+_};
 ghost use lib.ListN.{length, drop};
 ghost use Rattle.lists.specs.Write.{over, splice};
-ghost use Rattle.utf8.specs.Utf8.{class, numberOf, classAt, Classes, begins, stepOf, valid, lossy};
+ghost use Rattle.utf8.specs.Utf8.{class, numberOf, Classes, begins, follow, stepOf, valid, lossy};
 ghost use Rattle.utf8.specs.Runs.{Stretch, Ran};
 ghost use Rattle.utf8.specs.Write.{answer, bytes, within};
 
 mod table;
-
-// What a first byte says: how many bytes follow it, and from which to which the next one lies.
-pub struct Class {
-    pub more: u8,
-    pub low: u8,
-    pub high: u8,
-}
 
 // What stands at a place: a character of so many bytes, an ill-formed part of so many, or the end.
 pub enum Part {
@@ -48,36 +41,13 @@ fn wide(x: u8) -> usize
     x as usize
 }
 
-fn says(more: u8, low: u8, high: u8) -> Class
-    ensures { λ r. ⌜ r ≡ class more low high ⌝ }
-{
-    Class { more, low, high }
-}
-
-// What the class of this number says. A byte that begins nothing is to be followed by one from 1 to 0, which none is.
-fn class_at(k: u8) -> Class
-    ensures { λ r. ⌜ r ≡ classAt k ⌝ }
-{
-    match k {
-        0 => says(0, 0x80, 0xBF),
-        1 => says(1, 0x80, 0xBF),
-        2 => says(2, 0xA0, 0xBF),
-        3 => says(2, 0x80, 0xBF),
-        4 => says(2, 0x80, 0x9F),
-        5 => says(2, 0x80, 0xBF),
-        6 => says(3, 0x90, 0xBF),
-        7 => says(3, 0x80, 0xBF),
-        8 => says(3, 0x80, 0x8F),
-        _ => says(1, 1, 0),
-    }
-}
-
-fn class_of(table: &[u8; 256], b: u8) -> Class
+// The class number of a first byte.
+fn number_of(table: &[u8; 256], b: u8) -> u8
     requires { ⌜ Classes (now table) ⌝ }
-    ensures { λ r. ⌜ r ≡ classAt (numberOf b) ⌝ }
+    ensures { λ r. ⌜ r ≡ numberOf b ⌝ }
 {
     let n = wide(b);
-    class_at(table[n])
+    table[n]
 }
 
 // Does a byte from low to high stand at this place?
@@ -93,7 +63,46 @@ fn follows(s: &[u8], at: usize, low: u8, high: u8) -> bool
     s[at] <= high
 }
 
-// What stands at this place.
+// Two, three or four bytes make a character: what those from `at` on, behind the first byte, make of it. The next one lies from low to high.
+fn two(s: &[u8], at: usize, low: u8, high: u8) -> Part
+    ensures { λ r. ⌜ r ≡ follow (class 1 low high) (drop at (now (s .entry))) ⌝ }
+{
+    if !follows(s, at, low, high) {
+        return Part::Bad(1);
+    }
+    Part::Good(2)
+}
+
+fn three(s: &[u8], at: usize, low: u8, high: u8) -> Part
+    requires { ⌜ at ≤ length (now s) ⌝ }
+    ensures { λ r. ⌜ r ≡ follow (class 2 low high) (drop at (now (s .entry))) ⌝ }
+{
+    if !follows(s, at, low, high) {
+        return Part::Bad(1);
+    }
+    if !follows(s, at + 1, 0x80, 0xBF) {
+        return Part::Bad(2);
+    }
+    Part::Good(3)
+}
+
+fn four(s: &[u8], at: usize, low: u8, high: u8) -> Part
+    requires { ⌜ at ≤ length (now s) ⌝ }
+    ensures { λ r. ⌜ r ≡ follow (class 3 low high) (drop at (now (s .entry))) ⌝ }
+{
+    if !follows(s, at, low, high) {
+        return Part::Bad(1);
+    }
+    if !follows(s, at + 1, 0x80, 0xBF) {
+        return Part::Bad(2);
+    }
+    if !follows(s, at + 2, 0x80, 0xBF) {
+        return Part::Bad(3);
+    }
+    Part::Good(4)
+}
+
+// What stands at this place, by the row of table 3-7 that has the first byte.
 pub fn step_by(table: &[u8; 256], s: &[u8], at: usize) -> Part
     requires { ⌜ Classes (now table) ⌝ }
     ensures { λ r. ⌜ r ≡ stepOf (drop at (now (s .entry))) ⌝ }
@@ -101,30 +110,20 @@ pub fn step_by(table: &[u8; 256], s: &[u8], at: usize) -> Part
     if at >= s.len() {
         return Part::End;
     }
-    let c = class_of(table, s[at]);
-    let more = c.more;
-    if more == 0 {
-        return Part::Good(1);
+    let k = number_of(table, s[at]);
+    let next = at + 1;
+    match k {
+        0 => Part::Good(1),
+        1 => two(s, next, 0x80, 0xBF),
+        2 => three(s, next, 0xA0, 0xBF),
+        3 => three(s, next, 0x80, 0xBF),
+        4 => three(s, next, 0x80, 0x9F),
+        5 => three(s, next, 0x80, 0xBF),
+        6 => four(s, next, 0x90, 0xBF),
+        7 => four(s, next, 0x80, 0xBF),
+        8 => four(s, next, 0x80, 0x8F),
+        _ => Part::Bad(1),
     }
-    let second = at + 1;
-    if !follows(s, second, c.low, c.high) {
-        return Part::Bad(1);
-    }
-    if more == 1 {
-        return Part::Good(2);
-    }
-    let third = second + 1;
-    if !follows(s, third, 0x80, 0xBF) {
-        return Part::Bad(2);
-    }
-    if more == 2 {
-        return Part::Good(3);
-    }
-    let fourth = third + 1;
-    if !follows(s, fourth, 0x80, 0xBF) {
-        return Part::Bad(3);
-    }
-    Part::Good(4)
 }
 
 pub fn step(s: &[u8], at: usize) -> Part
