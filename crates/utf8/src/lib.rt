@@ -154,21 +154,25 @@ fn run_from(table: &[u8; 256], s: &[u8], from: usize) -> Run
     ensures { λ r. ⌜ Ran (now (s .entry)) from (r .end) (r .bad) ⌝ }
 {
     let mut at = from;
-    loop {
-        let p = plain_end(s, at);
-        let x = step_by(table, s, p);
+    while at < s.len() {
+        if s[at] < 0x80 {
+            at = plain_end(s, at + 1);
+            continue;
+        }
+        let x = step_by(table, s, at);
         match x {
             Part::Good(n) => {
-                at = p + n;
+                at += n;
             }
             Part::Bad(n) => {
-                return Run { end: p, bad: n };
+                return Run { end: at, bad: n };
             }
             Part::End => {
-                return Run { end: p, bad: 0 };
+                return Run { end: at, bad: 0 };
             }
         }
     }
+    Run { end: at, bad: 0 }
 }
 
 // Is this well-formed UTF-8?
