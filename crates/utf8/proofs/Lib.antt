@@ -1,6 +1,7 @@
 pub mod Rule
 pub mod Lists
 pub mod Laws
+pub mod Boundary
 pub mod Maximal
 pub mod Sizes
 pub mod Samples

@@ -2,16 +2,17 @@
 use Prim.Native.Nat.{ℕ, zero, suc, _+_, _-_, _≤_, _<_}
 use native.Mathlib.Omega.{arith}
 use mathlib.Core.Path.{_≡_, refl, sym, ap, _∙_}
-use mathlib.Core.Logic.{_⊎_, inl, inr}
+use mathlib.Core.Logic.{_⊎_, inl, inr, ⊎-elim}
 use mathlib.Core.Bool.{Bool, true, false, cond}
-use mathlib.Core.List.{List, [], _∷_, _++_}
+use mathlib.Core.List.{List, [], _∷_, _++_, append-assoc}
 use lib.Dec.{eqb}
-use lib.ListN.{length, take, replicate, length-replicate}
+use lib.ListN.{length, take, drop, replicate, length-append, length-replicate}
+use lib.Seq.{length-take-le, take-add}
 use borrow.Author.Tests.{eqb-true, eqb-false, eq-eqb, ne-eqb}
 use Rattle.utf8.specs.declared.Part.the-variants.{Good, Bad, End}
 use Rattle.lists.specs.Bytes.{among}
-use Rattle.utf8.specs.Utf8.{numberOf, classAt, run, judged, stepOf}
-use Rattle.utf8.proofs.Laws.{counts, goes-on}
+use Rattle.utf8.specs.Utf8.{numberOf, classAt, run, judged, stepOf, size, Initial, Maximal}
+use Rattle.utf8.proofs.Laws.{counts, goes-on, step-within, step-moves}
 
 -- ---- with the byte behind it, it begins no character
 
@@ -54,11 +55,6 @@ run-bound (suc n) low high (b ∷ s) = counts (among low high b) _ _ (run-bound 
 
 -- ---- the law
 
--- the part is b and the first k of s
-pub record Maximal (b : ℕ) (s : List ℕ) (k : ℕ) : Type 0 where
-  pub begins : (k ≡ 0) ⊎ ((t : List ℕ) × (stepOf (b ∷ (take k s ++ t)) ≡ Good (suc (k + length t))))
-  pub longest : k < length s → (t : List ℕ) → stepOf (b ∷ (take (suc k) s ++ t)) ≡ Bad (suc k)
-
 pub judged-bad : (m n k : ℕ) → judged m n ≡ Bad (suc k) → (n ≡ k) × (eqb n m ≡ false)
 judged-bad m n k h = go (eqb n m) refl h
   where
@@ -66,20 +62,52 @@ judged-bad m n k h = go (eqb n m) refl h
     go true e h = let z : _≡_ {A = ℕ} 0 1 = cc in absurd (omega arith)
     go false e h = (cc, e)
 
-pub bad-maximal : (b : ℕ) (s : List ℕ) (k : ℕ) → stepOf (b ∷ s) ≡ Bad (suc k) → Maximal b s k
-unfolding stepOf
-bad-maximal b s k h =
-    let c = classAt (numberOf b) in
-    let (e, f) = judged-bad (c .more) (run (c .more) (c .low) (c .high) s) k h in
-    let short : run (c .more) (c .low) (c .high) s ≡ c .more → ⊥ = eqb-false (run (c .more) (c .low) (c .high) s) (c .more) f in
-    record {
-      begins = start (c .more) (c .low) (c .high) k e (omega (arith, run-bound (c .more) (c .low) (c .high) s, short));
-      longest = λ i t. rw (run-ends (c .more) (c .low) (c .high) k s t e i, ← e, f);
-    }
+-- the part is b and the first k of s
+module _ (b : ℕ) (s : List ℕ) (k : ℕ) (h : stepOf (b ∷ s) ≡ Bad (suc k)) where
+  -- it begins a character, or is one byte
+  completes : (k ≡ 0) ⊎ ((t : List ℕ) × (stepOf (b ∷ (take k s ++ t)) ≡ Good (suc (k + length t))))
+  unfolding stepOf
+  completes =
+      let c = classAt (numberOf b) in
+      let (e, f) = judged-bad (c .more) (run (c .more) (c .low) (c .high) s) k h in
+      let short : run (c .more) (c .low) (c .high) s ≡ c .more → ⊥ = eqb-false (run (c .more) (c .low) (c .high) s) (c .more) f in
+      start (c .more) (c .low) (c .high) k e (omega (arith, run-bound (c .more) (c .low) (c .high) s, short))
+    where
+      start : (n low high k : ℕ) → run n low high s ≡ k → k < n → (k ≡ 0) ⊎ ((t : List ℕ) × (judged n (run n low high (take k s ++ t)) ≡ Good (suc (k + length t))))
+      start n low high zero e h = inl refl
+      start n low high (suc k) e h =
+          let t : List ℕ = replicate (n - suc k) 0x80 in
+          let l : suc k + length t ≡ n = omega (arith, length-replicate {A = ℕ} (n - suc k) 0x80) in
+          inr (t, rw (run-starts n low high k (n - suc k) s (omega arith) e, eq-eqb n n refl, l))
+
+  -- with one byte more it begins none
+  stays : k < length s → (t : List ℕ) → stepOf (b ∷ (take (suc k) s ++ t)) ≡ Bad (suc k)
+  unfolding stepOf
+  stays i t =
+      let c = classAt (numberOf b) in
+      let (e, f) = judged-bad (c .more) (run (c .more) (c .low) (c .high) s) k h in
+      rw (run-ends (c .more) (c .low) (c .high) k s t e i, ← e, f)
+
+  fits : k ≤ length s
+  fits = let w : suc k ≤ suc (length s) = rw h at (step-within (b ∷ s)) in omega arith
+
+  begins-one : (suc k ≡ 1) ⊎ Initial (b ∷ take k s)
+  begins-one = ⊎-elim (λ z. inl (ap suc z)) (λ w. inr (w .0, w .1 ∙ ap (λ n. Good (suc n)) (sym (length-append (take k s) (w .0) ∙ rw (length-take-le k s fits))))) completes
+
+  longest : (m : ℕ) → suc k < m → m ≤ suc (length s) → Initial (take m (b ∷ s)) → ⊥
+  longest zero l i w = omega arith
+  longest (suc m) l i w =
+      let cut : take m s ≡ take (suc k) s ++ take (m - suc k) (drop (suc k) s) = let n : m ≡ suc k + (m - suc k) = omega arith in ap (λ q. take q s) n ∙ take-add (suc k) (m - suc k) s in
+      let same : take m s ++ w .0 ≡ take (suc k) s ++ (take (m - suc k) (drop (suc k) s) ++ w .0) = rw cut (append-assoc (take (suc k) s) _ _) in
+      let broken : stepOf (b ∷ (take m s ++ w .0)) ≡ Bad (suc k) = rw same (stays (omega arith) _) in
+      let whole : stepOf (b ∷ (take m s ++ w .0)) ≡ Good (suc (length (take m s ++ w .0))) = w .1 in
+      let z : _≡_ {A = ℕ} 0 1 = cc in
+      omega arith
+
+pub bad-maximal : (s : List ℕ) (n : ℕ) → stepOf s ≡ Bad n → Maximal s n
+bad-maximal [] n e = let q : stepOf [] ≡ End = unfold stepOf in refl in let z : _≡_ {A = ℕ} 0 1 = cc in absurd (omega arith)
+bad-maximal (b ∷ s) zero e = let h : 0 < size (Bad zero) = rw e at (step-moves b s) in absurd (omega arith)
+bad-maximal (b ∷ s) (suc k) e = record { inside = ap-le (fits b s k e); begins-one = begins-one b s k e; longest = longest b s k e }
   where
-    start : (n low high k : ℕ) → run n low high s ≡ k → k < n → (k ≡ 0) ⊎ ((t : List ℕ) × (judged n (run n low high (take k s ++ t)) ≡ Good (suc (k + length t))))
-    start n low high zero e h = inl refl
-    start n low high (suc k) e h =
-        let t : List ℕ = replicate (n - suc k) 0x80 in
-        let l : suc k + length t ≡ n = omega (arith, length-replicate {A = ℕ} (n - suc k) 0x80) in
-        inr (t, rw (run-starts n low high k (n - suc k) s (omega arith) e, eq-eqb n n refl, l))
+    ap-le : {m n : ℕ} → m ≤ n → suc m ≤ suc n
+    ap-le h = omega arith

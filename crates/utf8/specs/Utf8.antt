@@ -1,9 +1,10 @@
 -- UTF-8 by the Unicode standard: table 3-7 (well-formed byte sequences), and section 3.9, "substitution of maximal subparts" (D93b).
-use Prim.Native.Nat.{ℕ, zero, suc, _<_}
+use Prim.Native.Nat.{ℕ, zero, suc, _≤_, _<_}
 use mathlib.Core.Path.{_≡_}
+use mathlib.Core.Logic.{_⊎_}
 use mathlib.Core.Bool.{Bool, true, false, _&&_, cond}
 use mathlib.Core.List.{List, [], _∷_, _++_}
-use lib.ListN.{getD, take, drop}
+use lib.ListN.{length, getD, take, drop}
 use lib.Dec.{ltb, eqb}
 use Rattle.lists.specs.Bytes.{among, all}
 use Rattle.utf8.specs.declared.Part.{Part}
@@ -141,3 +142,19 @@ valid s = validFrom 0 s
 -- every byte is ASCII
 abbrev pub plain : List ℕ → Bool
 plain s = all (λ (b : ℕ). ltb b 0x80) s
+
+-- ---- D93b, maximal subpart
+
+-- one character, whole
+abbrev pub WellFormed : List ℕ → Type 0
+WellFormed w = stepOf w ≡ Good (length w)
+
+-- p is an initial part of a well-formed sequence
+abbrev pub Initial : List ℕ → Type 0
+Initial p = (t : List ℕ) × WellFormed (p ++ t)
+
+-- the first n bytes of s: one byte, or an initial part of a well-formed sequence; and no longer front of s is one
+pub record Maximal (s : List ℕ) (n : ℕ) : Type 0 where
+  pub inside : n ≤ length s
+  pub begins-one : (n ≡ 1) ⊎ Initial (take n s)
+  pub longest : (m : ℕ) → n < m → m ≤ length s → Initial (take m s) → ⊥

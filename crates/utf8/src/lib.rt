@@ -28,7 +28,7 @@ pub enum Converted {
     NoRoom,
 }
 
-// The table of class numbers. A public call takes it once and lends it to what it calls.
+// The table of class numbers. A call copies it once and lends it to the functions that take `table`.
 pub fn class_table() -> [u8; 256]
     ensures { λ r. ⌜ Classes r ⌝ }
 {
@@ -63,7 +63,7 @@ fn follows(s: &[u8], at: usize, low: u8, high: u8) -> bool
     s[at] <= high
 }
 
-// Two, three or four bytes make a character: what those from `at` on, behind the first byte, make of it. The next one lies from low to high.
+// A character of two bytes, whose second stands at `at` and lies from low to high: is it there?
 fn two(s: &[u8], at: usize, low: u8, high: u8) -> Part
     ensures { λ r. ⌜ r ≡ follow (class 1 low high) (drop at (now (s .entry))) ⌝ }
 {
@@ -73,6 +73,7 @@ fn two(s: &[u8], at: usize, low: u8, high: u8) -> Part
     Part::Good(2)
 }
 
+// The same of three bytes.
 fn three(s: &[u8], at: usize, low: u8, high: u8) -> Part
     requires { ⌜ at ≤ length (now s) ⌝ }
     ensures { λ r. ⌜ r ≡ follow (class 2 low high) (drop at (now (s .entry))) ⌝ }
@@ -86,6 +87,7 @@ fn three(s: &[u8], at: usize, low: u8, high: u8) -> Part
     Part::Good(3)
 }
 
+// The same of four bytes.
 fn four(s: &[u8], at: usize, low: u8, high: u8) -> Part
     requires { ⌜ at ≤ length (now s) ⌝ }
     ensures { λ r. ⌜ r ≡ follow (class 3 low high) (drop at (now (s .entry))) ⌝ }
@@ -102,7 +104,7 @@ fn four(s: &[u8], at: usize, low: u8, high: u8) -> Part
     Part::Good(4)
 }
 
-// What stands at this place, by the row of table 3-7 that has the first byte.
+// What stands at this place. Each number is a row of table 3-7.
 pub fn step_by(table: &[u8; 256], s: &[u8], at: usize) -> Part
     requires { ⌜ Classes (now table) ⌝ }
     ensures { λ r. ⌜ r ≡ stepOf (drop at (now (s .entry))) ⌝ }
@@ -126,6 +128,7 @@ pub fn step_by(table: &[u8; 256], s: &[u8], at: usize) -> Part
     }
 }
 
+// What stands at this place of the text.
 pub fn step(s: &[u8], at: usize) -> Part
     ensures { λ r. ⌜ r ≡ stepOf (drop at (now (s .entry))) ⌝ }
 {
@@ -175,7 +178,7 @@ fn run_from(table: &[u8; 256], s: &[u8], from: usize) -> Run
     Run { end: at, bad: 0 }
 }
 
-// Is this well-formed UTF-8?
+// Is the text well-formed UTF-8? With the table lent.
 pub fn is_utf8_by(table: &[u8; 256], s: &[u8]) -> bool
     requires { ⌜ Classes (now table) ⌝ }
     ensures { λ r. ⌜ r ≡ valid (now (s .entry)) ⌝ }
@@ -184,6 +187,7 @@ pub fn is_utf8_by(table: &[u8; 256], s: &[u8]) -> bool
     r.bad == 0
 }
 
+// Is the text well-formed UTF-8?
 pub fn is_utf8(s: &[u8]) -> bool
     ensures { λ r. ⌜ r ≡ valid (now (s .entry)) ⌝ }
 {
@@ -191,7 +195,7 @@ pub fn is_utf8(s: &[u8]) -> bool
     is_utf8_by(&table, s)
 }
 
-// How many bytes the text has with U+FFFD in place of each ill-formed part, where that is at most room.
+// How many bytes the text has with U+FFFD in place of each ill-formed part, where that is at most `room`. With the table lent.
 pub fn lossy_within(table: &[u8; 256], s: &[u8], room: usize) -> Converted
     requires { ⌜ Classes (now table) ⌝ }
     ensures { λ r. ⌜ r ≡ answer (within room (lossy (now (s .entry)))) ⌝ }
@@ -216,6 +220,7 @@ pub fn lossy_within(table: &[u8; 256], s: &[u8], room: usize) -> Converted
     }
 }
 
+// How many bytes the text has with U+FFFD in place of each ill-formed part, where that is at most `room`.
 pub fn lossy_size(s: &[u8], room: usize) -> Converted
     ensures { λ r. ⌜ r ≡ answer (within room (lossy (now (s .entry)))) ⌝ }
 {
@@ -223,7 +228,7 @@ pub fn lossy_size(s: &[u8], room: usize) -> Converted
     lossy_within(&table, s, room)
 }
 
-// Writes that text into `out` from `at`, and answers where it ends.
+// Writes the text, with U+FFFD in place of each ill-formed part, into `out` from `at`, and answers where it ends. With the table lent.
 pub fn lossy_put(table: &[u8; 256], out: &mut [u8], at: usize, s: &[u8]) -> usize
     requires { ⌜ (Classes (now table)) × (at + length (lossy (now s)) ≤ length (now out)) ⌝ }
     ensures { λ r. ⌜ (r ≡ at + length (lossy (now (s .entry)))) × (now (out .exit) ≡ splice (now (out .entry)) at (lossy (now (s .entry)))) ⌝ }
@@ -242,7 +247,8 @@ pub fn lossy_put(table: &[u8; 256], out: &mut [u8], at: usize, s: &[u8]) -> usiz
     }
 }
 
-// Writes that text at the front of `out` where there is room; else nothing is written. It is at least as long as `s`, at most three times as long, and the same where `s` is UTF-8.
+// Writes the text, with U+FFFD in place of each ill-formed part, at the front of `out` where there is room; else nothing is written.
+// What is written is at least as long as `s`, at most three times as long, and `s` itself where that is UTF-8.
 pub fn lossy_into(s: &[u8], out: &mut [u8]) -> Converted
     ensures { λ r. ⌜ (r ≡ answer (within (length (now (out .entry))) (lossy (now (s .entry))))) × (now (out .exit) ≡ over (bytes (within (length (now (out .entry))) (lossy (now (s .entry))))) (now (out .entry))) ⌝ }
 {
