@@ -2,4 +2,3 @@ pub mod Same
 pub mod Places
 pub mod Wrote
 pub mod Numbers
-pub mod Integers
