@@ -1,0 +1,6 @@
+pub mod Area
+pub mod Walk
+pub mod Located
+pub mod Places
+pub mod Finding
+pub mod ItemLaws
