@@ -1,0 +1,86 @@
+-- What the calls on whole files answer and write.
+use Prim.Native.Nat.{ℕ}
+use mathlib.Core.Bool.{Bool, _&&_}
+use mathlib.Core.Option.{Option, none, some}
+use mathlib.Core.List.{List, [], _∷_}
+use lib.ListN.{length}
+use lib.Dec.{leb}
+use Rattle.lists.specs.Choice.{found, isSome}
+use Rattle.replies.specs.Limits.{fileLimit}
+use Rattle.replies.specs.Refusal.{Test, need, refusalOf, Plan, no, yes, planned}
+use Rattle.replies.specs.declared.Refusal.{Refusal}
+use Rattle.replies.specs.declared.Refusal.the-variants.{FileTooLong, NoRoom, MalformedArea}
+use Rattle.items.specs.Items.{Item, areaBytes, parse, itemsIn}
+use Rattle.ape.specs.Tag.{findFooter, footed, serialize, readTag, replaced}
+use Rattle.ape.specs.declared.Footer.{Footer}
+use Rattle.ape.specs.declared.FooterFound.{FooterFound}
+use Rattle.ape.specs.declared.FooterFound.the-variants.{At, Nowhere, Refused as NotSearched}
+use Rattle.ape.specs.declared.TagRead.{TagRead}
+use Rattle.ape.specs.declared.TagRead.the-variants.{NoTag, Items, Refused as NotRead}
+use Rattle.ape.specs.declared.Written.{Written}
+use Rattle.ape.specs.declared.Written.the-variants.{Done, Refused}
+
+-- refusal 1: the file is not too long
+abbrev pub lentFits : List ℕ → Test
+lentFits file = need FileTooLong (leb (length file) fileLimit)
+
+-- refusal 12: the area is exactly so many items
+abbrev pub areaFits : ℕ → List ℕ → Test
+areaFits count area = need MalformedArea (isSome (parse count area))
+
+-- refusal 5: a result of n bytes has room, and is not too long
+abbrev pub hasRoom : ℕ → ℕ → Bool
+hasRoom room n = leb n room && leb n fileLimit
+
+abbrev pub roomFor : ℕ → List ℕ → Test
+roomFor room w = need NoRoom (hasRoom room (length w))
+
+-- ---- find_ape_footer
+
+abbrev pub footerAnswer : Plan Footer → FooterFound
+footerAnswer (no r) = NotSearched r
+footerAnswer (yes f) = footed f Nowhere (λ n. At n)
+
+abbrev pub footerPlan : List ℕ → Plan Footer
+footerPlan file = planned (refusalOf (lentFits file ∷ [])) (findFooter file)
+
+-- ---- calls that write bytes: their length or the refusal, and what is written
+
+abbrev pub writtenAnswer : Plan (List ℕ) → Written
+writtenAnswer (no r) = Refused r
+writtenAnswer (yes w) = Done (length w)
+
+abbrev pub writtenBytes : Plan (List ℕ) → List ℕ
+writtenBytes (no r) = []
+writtenBytes (yes w) = w
+
+-- serialize_ape_tag
+unfoldable pub serializePlan : List ℕ → ℕ → ℕ → Plan (List ℕ)
+serializePlan area count room =
+    let w = serialize (itemsIn count area) in
+    planned (refusalOf (areaFits count area ∷ roomFor room w ∷ [])) w
+
+-- replace_ape_tag
+unfoldable pub replacePlan : List ℕ → List ℕ → ℕ → ℕ → Plan (List ℕ)
+replacePlan file area count room =
+    let w = replaced file (itemsIn count area) in
+    planned (refusalOf (lentFits file ∷ areaFits count area ∷ roomFor room w ∷ [])) w
+
+-- ---- read_ape_tag
+
+-- the item area of what was read: nothing for no tag
+abbrev pub readArea : Option (List Item) → List ℕ
+readArea none = []
+readArea (some ts) = areaBytes ts
+
+unfoldable pub readPlan : List ℕ → ℕ → Plan (Option (List Item))
+readPlan file room = planned (refusalOf (lentFits file ∷ roomFor room (readArea (readTag file)) ∷ [])) (readTag file)
+
+abbrev pub readAnswer : Plan (Option (List Item)) → TagRead
+readAnswer (no r) = NotRead r
+readAnswer (yes none) = NoTag
+readAnswer (yes (some ts)) = Items (length ts) (length (areaBytes ts))
+
+abbrev pub readBytes : Plan (Option (List Item)) → List ℕ
+readBytes (no r) = []
+readBytes (yes t) = readArea t
