@@ -79,6 +79,10 @@ readArea (some ts) = areaBytes ts
 abbrev pub measuredAs : ℕ → List Item → Measured
 measuredAs room ts = cond (leb (length (areaBytes ts)) room) (MeasuredItems (length ts) (length (areaBytes ts))) TooLong
 
+-- items that are read, if their area has room
+abbrev pub itemsPlan : ℕ → List Item → Plan (Option (List Item))
+itemsPlan room ts = planned (refusalOf (roomFor room (areaBytes ts) ∷ [])) (some ts)
+
 unfoldable pub readPlan : List ℕ → ℕ → Plan (Option (List Item))
 readPlan file room = planned (refusalOf (lentFits file ∷ roomFor room (readArea (readTag file)) ∷ [])) (readTag file)
 
