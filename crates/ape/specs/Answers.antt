@@ -1,17 +1,17 @@
--- What the calls on whole files answer and write.
+-- What the search for a footer and the reading of a tag answer and write.
 use Prim.Native.Nat.{ℕ}
 use mathlib.Core.Bool.{Bool, _&&_, cond}
 use mathlib.Core.Option.{Option, none, some}
 use mathlib.Core.List.{List, [], _∷_}
 use lib.ListN.{length}
 use lib.Dec.{leb}
-use Rattle.lists.specs.Choice.{found, isSome}
+use Rattle.lists.specs.Choice.{found}
 use Rattle.replies.specs.Limits.{fileLimit}
 use Rattle.replies.specs.Refusal.{Test, need, refusalOf, Plan, no, yes, planned}
 use Rattle.replies.specs.declared.Refusal.{Refusal}
-use Rattle.replies.specs.declared.Refusal.the-variants.{FileTooLong, NoRoom, MalformedArea}
-use Rattle.items.specs.Items.{Item, areaBytes, parse, itemsIn}
-use Rattle.ape.specs.Tag.{findFooter, footed, serialize, readTag, replaced}
+use Rattle.replies.specs.declared.Refusal.the-variants.{FileTooLong, NoRoom}
+use Rattle.items.specs.Items.{Item, areaBytes}
+use Rattle.ape.specs.Tag.{findFooter, footed, readTag}
 use Rattle.ape.specs.declared.Footer.{Footer}
 use Rattle.ape.specs.declared.FooterFound.{FooterFound}
 use Rattle.ape.specs.declared.FooterFound.the-variants.{At, Nowhere, Refused as NotSearched}
@@ -19,16 +19,10 @@ use Rattle.ape.specs.declared.TagRead.{TagRead}
 use Rattle.ape.specs.declared.TagRead.the-variants.{NoTag, Items, Refused as NotRead}
 use Rattle.ape.specs.declared.Measured.{Measured}
 use Rattle.ape.specs.declared.Measured.the-variants.{Items as MeasuredItems, NoRoom as TooLong}
-use Rattle.ape.specs.declared.Written.{Written}
-use Rattle.ape.specs.declared.Written.the-variants.{Done, Refused}
 
 -- refusal 1: the file is not too long
 abbrev pub lentFits : List ℕ → Test
 lentFits file = need FileTooLong (leb (length file) fileLimit)
-
--- refusal 12: the area is exactly so many items
-abbrev pub areaFits : ℕ → List ℕ → Test
-areaFits count area = need MalformedArea (isSome (parse count area))
 
 -- refusal 5: a result of n bytes has room, and is not too long
 abbrev pub hasRoom : ℕ → ℕ → Bool
@@ -45,28 +39,6 @@ footerAnswer (yes f) = footed f Nowhere (λ n. At n)
 
 abbrev pub footerPlan : List ℕ → Plan Footer
 footerPlan file = planned (refusalOf (lentFits file ∷ [])) (findFooter file)
-
--- ---- calls that write bytes: their length or the refusal, and what is written
-
-abbrev pub writtenAnswer : Plan (List ℕ) → Written
-writtenAnswer (no r) = Refused r
-writtenAnswer (yes w) = Done (length w)
-
-abbrev pub writtenBytes : Plan (List ℕ) → List ℕ
-writtenBytes (no r) = []
-writtenBytes (yes w) = w
-
--- serialize_ape_tag
-unfoldable pub serializePlan : List ℕ → ℕ → ℕ → Plan (List ℕ)
-serializePlan area count room =
-    let w = serialize (itemsIn count area) in
-    planned (refusalOf (areaFits count area ∷ roomFor room w ∷ [])) w
-
--- replace_ape_tag
-unfoldable pub replacePlan : List ℕ → List ℕ → ℕ → ℕ → Plan (List ℕ)
-replacePlan file area count room =
-    let w = replaced file (itemsIn count area) in
-    planned (refusalOf (lentFits file ∷ areaFits count area ∷ roomFor room w ∷ [])) w
 
 -- ---- read_ape_tag
 

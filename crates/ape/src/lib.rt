@@ -1,4 +1,4 @@
-// Tags in whole files: find_ape_footer, read_ape_tag, serialize_ape_tag, split_ape_tag and replace_ape_tag.
+// The tag of a file found and read: find_ape_footer and read_ape_tag.
 ghost use mathlib.Core.Path.{_≡_};
 ghost use mathlib.Core.Bool.{true};
 ghost use Prim.Native.Nat.{_≤_, _<_, _+_, min, _-_};
@@ -18,9 +18,6 @@ use utf8::Converted;
 
 const APE_VERSION: u32 = 2000;
 
-// The flag of a header: bit 29.
-const APE_FLAG_IS_HEADER: u32 = 0x2000_0000;
-
 // Where the footer of a file's tag stands.
 pub enum Footer {
     At(usize),
@@ -38,12 +35,6 @@ pub enum FooterFound {
 pub enum TagRead {
     NoTag,
     Items { count: usize, length: usize },
-    Refused(Refusal),
-}
-
-// How many bytes were written, or why none was.
-pub enum Written {
-    Done(usize),
     Refused(Refusal),
 }
 
@@ -95,19 +86,6 @@ pub fn find_ape_footer(file: &[u8]) -> FooterFound
         return FooterFound::Nowhere;
     };
     FooterFound::At(at)
-}
-
-// Writes the 32 bytes of a header or a footer to the front of `out`.
-fn put_block(out: &mut [u8], size: u32, count: u32, flags: u32)
-    requires { ⌜ 32 ≤ length (now out) ⌝ }
-    ensures { λ _. ⌜ now (out .exit) ≡ over (blockBytes size count flags) (now (out .entry)) ⌝ }
-{
-    let a = lists::put(out, 0, &frame::APE_PREAMBLE);
-    let b = lists::put_u32_le(out, a, APE_VERSION);
-    let c = lists::put_u32_le(out, b, size);
-    let d = lists::put_u32_le(out, c, count);
-    let e = lists::put_u32_le(out, d, flags);
-    lists::put(out, e, b"\0\0\0\0\0\0\0\0");
 }
 
 // Writes an item, its key and value converted, into `out` from `at`, and answers where it ends. The texts come first: their length is

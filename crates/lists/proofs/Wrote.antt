@@ -47,6 +47,13 @@ done x = (x .ends, x .is)
 pub from-start : {w out xs : List ℕ} {k : ℕ} → Wrote out 0 w k xs → xs ≡ over w out
 from-start x = x .is ∙ rw zero-add
 
+-- writing from 0 is writing at the front
+pub at-front : (out w : List ℕ) → splice out 0 w ≡ over w out
+at-front out w = rw zero-add
+
+pub first : (out w : List ℕ) {xs : List ℕ} → xs ≡ over w out → Wrote out 0 w (length w) xs
+first out w e = record { room = omega arith; ends = omega arith; is = e ∙ sym (at-front out w) }
+
 -- ---- the rest of an output, lent to a callee as `&mut out[at..]`, and what came back
 
 module _ (out : List ℕ) (at : ℕ) where
@@ -63,3 +70,8 @@ module _ (out : List ℕ) (at : ℕ) where
       let y : ys ≡ w ++ drop (at + length w) out = e ∙ rw (rest, drop-drop) in
       let n : drop (length out - at) (drop at out) ≡ [] = drop-of-length-le (drop at out) {i = length out - at} (rw length-drop (omega arith)) in
       rw (y, n, append-nil) (simp append-assoc)
+
+-- p was written to the front of the rest that begins where w ends
+pub into-rest : {out xs w : List ℕ} {k : ℕ} → Wrote out 0 w k xs → (p ys : List ℕ) → ys ≡ over p (take (length xs - k) (drop k xs))
+    → Wrote out 0 (w ++ p) (k + length p) (take k xs ++ (ys ++ drop (length xs - k) (drop k xs)))
+into-rest {out} {xs} {w} {k} x p ys e = next x p (refl, home xs k p ys e)

@@ -8,9 +8,9 @@ use Rattle.lists.specs.Le.{u32le}
 use Rattle.lists.specs.Write.{over}
 use Rattle.lists.proofs.Wrote.{Wrote, start, next, from-start}
 use Rattle.frame.specs.Tail.{preamble}
 use Rattle.ape.specs.Tag.{blockBytes}
-use Rattle.ape.proofs.put_block.Statement.{statement}
-use Rattle.ape.proofs.put_block.Tie as tie
+use Rattle.ape_write.proofs.put_block.Statement.{statement}
+use Rattle.ape_write.proofs.put_block.Tie as tie
 
 returns : tie.Need-returns
 unfolding blockBytes
