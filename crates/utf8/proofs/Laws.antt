@@ -1,17 +1,17 @@
 -- Laws of `stepOf`, `lossy` and `valid`.
-use Prim.Native.Nat.{ℕ, zero, suc, _+_, _-_, _*_, _≤_, _<_}
+use Prim.Native.Nat.{ℕ, zero, suc, _+_, _-_, _≤_, _<_}
 use native.Mathlib.Omega.{arith}
 use mathlib.Core.Path.{_≡_, refl, sym, ap, _∙_}
 use mathlib.Core.Bool.{Bool, true, false, _&&_, cond, and-eq-true-iff}
 use mathlib.Core.List.{List, [], _∷_, _++_, append-assoc, append-nil}
-use lib.Dec.{leb, ltb, eqb}
-use lib.ListN.{length, take, drop, length-append, length-take, take-append-drop}
-use lib.Seq.{drop-nil, drop-at, length-take-le, take-append-le}
+use lib.Dec.{ltb, eqb}
+use lib.ListN.{length, take, drop, take-append-drop}
+use lib.Seq.{drop-at, length-take-le, take-append-le}
 use borrow.Author.Tests.{eqb-true, ltb-true, le-leb, eq-eqb}
 use Rattle.utf8.specs.declared.Part.{Part}
 use Rattle.utf8.specs.declared.Part.the-variants.{Good, Bad, End}
 use Rattle.lists.specs.Bytes.{among, all, Small}
-use Rattle.utf8.specs.Utf8.{numberOf, classAt, run, judged, follow, stepOf, size, after, mark, textOf, whole, lossyFrom, lossy, validFrom, valid, plain}
+use Rattle.utf8.specs.Utf8.{numberOf, classAt, run, judged, stepOf, size, after, mark, textOf, whole, lossyFrom, lossy, validFrom, valid, plain}
 use Rattle.utf8.proofs.Lists.{small-nil, small-append, small-take, small-all}
 
 -- ---- one step

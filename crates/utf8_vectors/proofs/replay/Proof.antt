@@ -1,6 +1,5 @@
-use Prim.Native.Nat.{_≤_, _<_, _-_, _*_, _+_}
+use Prim.Native.Nat.{_≤_, _-_}
 use native.Mathlib.Omega.{arith}
-use borrow.Author.Needs.{needs}
 use lib.ListN.{length}
 use Rattle.utf8_vectors.proofs.replay.Statement.{statement}
 use Rattle.utf8_vectors.proofs.replay.Tie as tie
