@@ -47,6 +47,7 @@ length-lossyFrom (b ∷ s) zero =
     let x = stepOf (b ∷ s) in
     simp length-append (omega (arith, text-length s b x, length-lossyFrom s (after (size x))))
 
+-- at most three times as long
 pub length-lossy : (s : List ℕ) → length (lossy s) ≤ 3 * length s
 unfolding lossy
 length-lossy s = omega (arith, length-lossyFrom s 0)
@@ -59,6 +60,7 @@ least-lossyFrom (b ∷ s) zero =
     let x = stepOf (b ∷ s) in
     simp length-append (omega (arith, text-least s b x refl, least-lossyFrom s (after (size x))))
 
+-- at least as long
 pub least-lossy : (s : List ℕ) → length s ≤ length (lossy s)
 unfolding lossy
 least-lossy s = omega (arith, least-lossyFrom s 0)
