@@ -1,6 +1,6 @@
 -- What the calls on whole files answer and write.
 use Prim.Native.Nat.{ℕ}
-use mathlib.Core.Bool.{Bool, _&&_}
+use mathlib.Core.Bool.{Bool, _&&_, cond}
 use mathlib.Core.Option.{Option, none, some}
 use mathlib.Core.List.{List, [], _∷_}
 use lib.ListN.{length}
@@ -17,6 +17,8 @@ use Rattle.ape.specs.declared.FooterFound.{FooterFound}
 use Rattle.ape.specs.declared.FooterFound.the-variants.{At, Nowhere, Refused as NotSearched}
 use Rattle.ape.specs.declared.TagRead.{TagRead}
 use Rattle.ape.specs.declared.TagRead.the-variants.{NoTag, Items, Refused as NotRead}
+use Rattle.ape.specs.declared.Measured.{Measured}
+use Rattle.ape.specs.declared.Measured.the-variants.{Items as MeasuredItems, NoRoom as TooLong}
 use Rattle.ape.specs.declared.Written.{Written}
 use Rattle.ape.specs.declared.Written.the-variants.{Done, Refused}
 
@@ -72,6 +74,14 @@ replacePlan file area count room =
 abbrev pub readArea : Option (List Item) → List ℕ
 readArea none = []
 readArea (some ts) = areaBytes ts
+
+-- items and bytes, where the bytes are at most `room`
+abbrev pub measuredAs : ℕ → List Item → Measured
+measuredAs room ts = cond (leb (length (areaBytes ts)) room) (MeasuredItems (length ts) (length (areaBytes ts))) TooLong
+
+-- items that are read, if their area has room
+abbrev pub itemsPlan : ℕ → List Item → Plan (Option (List Item))
+itemsPlan room ts = planned (refusalOf (roomFor room (areaBytes ts) ∷ [])) (some ts)
 
 unfoldable pub readPlan : List ℕ → ℕ → Plan (Option (List Item))
 readPlan file room = planned (refusalOf (lentFits file ∷ roomFor room (readArea (readTag file)) ∷ [])) (readTag file)

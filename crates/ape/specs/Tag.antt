@@ -75,11 +75,14 @@ areaAt s f = take (sizeAt s f - 32) (drop (f + 32 - sizeAt s f) s)
 
 -- ---- reading
 
--- at most n items, until none is whole; keys and values through `lossy`, flags become zero
+-- an item of this key and value, both through `lossy`
+abbrev pub converted : List ℕ → List ℕ → Item
+converted key value = record { key = lossy key; value = lossy value }
+
+-- at most n items, until none is whole; flags become zero
 unfoldable pub readItems : ℕ → List ℕ → List Item
 readItems zero s = []
-readItems (suc n) s =
-    found (head s) [] (λ h. record { key = lossy (h .item .key); value = lossy (h .item .value) } ∷ readItems n (h .rest))
+readItems (suc n) s = found (head s) [] (λ h. converted (h .item .key) (h .item .value) ∷ readItems n (h .rest))
 
 -- no tag without a footer, of another version, or where the size passes the footer's end; the header is not looked at
 unfoldable pub readTag : List ℕ → Option (List Item)

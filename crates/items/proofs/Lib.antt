@@ -4,3 +4,4 @@ pub mod Located
 pub mod Places
 pub mod Finding
 pub mod ItemLaws
+pub mod Loops

@@ -1,9 +1,8 @@
 // The item area: exactly `count` items, one after another, flags zero. It stands for the source's `ApeTag`.
 ghost use mathlib.Core.Path.{_≡_};
-ghost use Prim.Native.Nat.{_≤_, _<_, _+_};
+ghost use Prim.Native.Nat.{_≤_};
 ghost use lib.ListN.{length, drop};
 ghost use Rattle.lists.specs.Choice.{isSome};
-ghost use Rattle.lists.specs.Le.{readU32};
 ghost use Rattle.items.specs.Items.{parse};
 ghost use Rattle.items.specs.Answers.{stepAny, stepOf, locateOf, findOf, valueOf, replyTo, isThere};
 use replies::Refusal;
@@ -39,24 +38,6 @@ pub enum Found {
     Refused(Refusal),
 }
 
-// The bound lets each sum of `get_u32` be seen to fit.
-fn wide(x: u8) -> u32
-    ensures { λ r. ⌜ (r ≡ x) × (r < 256) ⌝ }
-{
-    x as u32
-}
-
-fn get_u32(s: &[u8], at: usize) -> u32
-    requires { ⌜ at + 4 ≤ length (now s) ⌝ }
-    ensures { λ r. ⌜ r ≡ readU32 (now (s .entry)) at ⌝ }
-{
-    let a = wide(s[at]);
-    let b = wide(s[at + 1]);
-    let c = wide(s[at + 2]);
-    let d = wide(s[at + 3]);
-    a + b * 256 + c * 65536 + d * 16777216
-}
-
 // The item that begins at `at`, whatever its flags.
 pub fn step_any(area: &[u8], at: usize) -> Stepped
     ensures { λ r. ⌜ r ≡ stepAny (now (area .entry)) at ⌝ }
@@ -67,7 +48,7 @@ pub fn step_any(area: &[u8], at: usize) -> Stepped
     if area.len() - at < 8 {
         return Stepped::Malformed;
     }
-    let n = get_u32(area, at) as usize;
+    let n = frame::read_u32_le(area, at) as usize;
     let key_end = lists::find_byte(area, at + 8, 0);
     if key_end >= area.len() {
         return Stepped::Malformed;
@@ -76,7 +57,7 @@ pub fn step_any(area: &[u8], at: usize) -> Stepped
         return Stepped::Malformed;
     }
     Stepped::Item {
-        flags: get_u32(area, at + 4),
+        flags: frame::read_u32_le(area, at + 4),
         key_start: at + 8,
         key_end,
         value_start: key_end + 1,
@@ -144,7 +125,7 @@ pub fn well_formed(area: &[u8], count: usize) -> bool
 pub fn locate(area: &[u8], count: usize, key: &[u8]) -> Place
     ensures { λ r. ⌜ r ≡ locateOf (now (area .entry)) count (now (key .entry)) ⌝ }
 {
-    if area.len() / 9 < count {
+    if count > area.len() / 9 {
         return Place::Malformed;
     }
     let mut at = 0;

@@ -5,7 +5,7 @@ use Prim.Native.Nat.{ℕ, _+_, _-_, _≤_}
 use native.Mathlib.Nat.{add-assoc, zero-add, add-zero}
 use native.Mathlib.Omega.{arith}
 use lib.ListN.{length, take, drop, length-append, length-drop, take-append-drop, drop-of-length-le}
-use lib.Seq.{take-at, take-all, drop-drop, drop-append-add, length-take-le}
+use lib.Seq.{take-at, take-all, take-append-le, take-take, drop-at, drop-drop, drop-append-add, length-take-le}
 use Rattle.lists.specs.Write.{over, splice}
 
 -- xs is out with w written into it from at to k. A record, so that antt finds the lists at each use
@@ -26,6 +26,18 @@ next {out} {xs} {ys} {w} {at} {k} {r} x p y =
     let front : take k xs ≡ take at out ++ w = rw (x .is) (take-at _ _ k head) in
     let back : drop (k + length p) xs ≡ drop (at + length (w ++ p)) out = rw (x .is, ← head, drop-append-add, drop-drop, length-append, add-assoc) in
     record { room = fits; ends = simp length-append (omega arith); is = y .1 ∙ rw (front, back) (simp append-assoc) }
+
+-- the other way round: p was written where w begins, up to it
+pub ahead : {out xs ys w : List ℕ} {at m k : ℕ} → Wrote out m w k xs → (p : List ℕ) → at + length p ≡ m → ys ≡ splice xs at p → Wrote out at (p ++ w) k ys
+ahead {out} {xs} {ys} {w} {at} {m} {k} x p e y =
+    let fits : m ≤ length out = x .room in
+    let long : length (take m out) ≡ m = length-take-le m out fits in
+    let front : take at xs ≡ take at out =
+    rw (x .is) (rw append-assoc (take-append-le at (take m out) (w ++ drop (m + length w) out) (omega arith) ∙ take-take at m out (omega arith))) in
+    let back : drop (at + length p) xs ≡ w ++ drop (at + length (p ++ w)) out =
+    let i : at + length (p ++ w) ≡ m + length w = simp length-append (omega arith) in
+    rw (e, x .is, i) (rw append-assoc (drop-at (take m out) (w ++ drop (m + length w) out) m long)) in
+    record { room = omega arith; ends = simp length-append (omega (arith, x .ends)); is = y ∙ rw (front, back) (simp append-assoc) }
 
 -- what a function that writes from at ensures
 pub done : {out xs w : List ℕ} {at k : ℕ} → Wrote out at w k xs → (k ≡ at + length w) × (xs ≡ splice out at w)

@@ -28,7 +28,7 @@ returns-5 c =
     let z = c .before .before .before in
     let u = z .before in
     let g = u .before .before .before .before .args in
-    rw (c .get-u322 .ensures, u .get-u32 .ensures, z .find-byte .ensures)
+    rw (c .read-u32-le2 .ensures, u .read-u32-le .ensures, z .find-byte .ensures)
     (sym (step-item (g .area .now) (g .at) (omega arith) (omega arith)))
 
 pub step-any-spec : {M : Type 1} → statement M
