@@ -295,3 +295,8 @@ parse-fits n s e = go (leb (9 * n) (length s)) refl
     go : (t : Bool) → leb (9 * n) (length s) ≡ t → 9 * n ≤ length s
     go true q = leb-true _ _ q
     go false q = absurd (true≢false (sym e ∙ ap isSome (parse-long n s (leb-false _ _ q))))
+
+pub parse-none : (s : List ℕ) (ts : List Item) → parse 0 s ≡ some ts → ts ≡ []
+unfolding parse
+parse-none [] ts e = cc
+parse-none (x ∷ s) ts e = absurd (let z : _≡_ {A = ℕ} 0 1 = cc in omega arith)
