@@ -1,2 +1,3 @@
 pub mod Dropping
 pub mod Plans
+pub mod Setting

@@ -13,6 +13,8 @@ use Rattle.replies.specs.declared.Refusal.the-variants.{MalformedArea, BadKey, 
 use Rattle.utf8.specs.Utf8.{valid}
 use Rattle.keys.specs.Keys.{upperAll, sameKey, isMp3gainKey, isUndone, isReplayGain, isKey}
 use Rattle.items.specs.Items.{Item, areaBytes, parse, itemsIn, setItem, without, removeItem}
+use Rattle.items.specs.declared.Place.{Place}
+use Rattle.items.specs.declared.Place.the-variants.{At, Nowhere, Malformed as BadArea}
 use Rattle.area_edit.specs.declared.Drop.{Drop}
 use Rattle.area_edit.specs.declared.Drop.the-variants.{Key, Undone, ReplayGain, Mp3gain}
 use Rattle.area_edit.specs.declared.Measured.{Measured}
@@ -63,6 +65,12 @@ abbrev pub dropPlan : (List ℕ → Bool) → ℕ → List ℕ → ℕ → Plan 
 dropPlan p n s room = edited [] (without p) n s room
 
 -- ---- the bytes that set writes
+
+-- the search found the area malformed
+abbrev pub isMalformed : Place → Bool
+isMalformed (At start stop end) = false
+isMalformed Nowhere = false
+isMalformed BadArea = true
 
 -- s with another value in the item from a to e, whose key ends at k
 unfoldable pub replaced : List ℕ → ℕ → ℕ → ℕ → List ℕ → List ℕ
