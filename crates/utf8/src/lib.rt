@@ -238,12 +238,13 @@ pub fn lossy_put(table: &[u8; 256], out: &mut [u8], at: usize, s: &[u8]) -> usiz
     loop {
         let r = run_from(table, s, from);
         let e = r.end;
+        let bad = r.bad;
         let p = lists::put_part(out, o, s, from, e);
-        if r.bad == 0 {
+        if bad == 0 {
             return p;
         }
         o = lists::put(out, p, b"\xEF\xBF\xBD");
-        from = e + r.bad;
+        from = e + bad;
     }
 }
 

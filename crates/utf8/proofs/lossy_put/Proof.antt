@@ -26,28 +26,28 @@ put-part-requires c κs =
 
 returns : tie.Need-returns Inv-loop μ-loop
 returns c =
-    let p = c .before .before .before .before in
+    let p = c .before .before .before in
     let r = p .before .before in
     finished (r .before .loop .inv) (r .run-from .ensures) (p .put-part .ensures .0, p .put-part .ensures .1) (c .if1 .taken)
 
 put-requires : tie.Need-put-requires Inv-loop μ-loop
 put-requires c κs =
     let i = c .before .before in
-    let p = i .before .before .before .before in
+    let p = i .before .before .before in
     let r = p .before .before in
     omega (arith, fits-mark (r .before .loop .inv) (r .run-from .ensures) (i .if1 .left), p .put-part .ensures .0, p .put-part .kept .0)
 
 loop-less : tie.Need-loop-less Inv-loop μ-loop
 loop-less c =
-    let i = c .before .before .before .before .before .before in
-    let r = i .before .before .before .before .before .before in
+    let i = c .before .before .before .before .before in
+    let r = i .before .before .before .before .before in
     omega (arith, r .run-from .ensures .inside, r .run-from .ensures .stretch .order, i .if1 .left)
 
 loop-again : tie.Need-loop-again Inv-loop μ-loop
 loop-again c =
-    let q = c .before .before .before in
+    let q = c .before .before in
     let i = q .before .before .before in
-    let p = i .before .before .before .before in
+    let p = i .before .before .before in
     let r = p .before .before in
     replaced (r .before .loop .inv) (r .run-from .ensures) (p .put-part .ensures .0, p .put-part .ensures .1) (i .if1 .left) (q .put .ensures) (q .put .kept .0 ∙ p .put-part .kept .0)
 
@@ -60,10 +60,10 @@ lossy-put-spec =
     loop-holds
     (λ c κs. (c .before .before .before .pre .0, c .loop .inv .inside))
     put-part-requires
-    (λ c. let p = c .before .before .before .before in p .put-part .kept .0 ∙ p .before .before .before .loop .inv .long)
+    (λ c. let p = c .before .before .before in p .put-part .kept .0 ∙ p .before .before .before .loop .inv .long)
     returns
     (λ c. search needs)
     put-requires
-    (λ c. omega (arith, c .before .before .before .before .before .before .before .before .before .before .before .before .run-from .ensures .inside))
+    (λ c. omega (arith, c .before .before .before .before .before .before .before .before .before .before .run-from .ensures .inside))
     loop-less
     loop-again)
