@@ -263,6 +263,25 @@ count-items (suc n) s e = go (plainHead s) refl (λ r. count-items n r)
     go none q ih = absurd (true≢false (sym e ∙ rw q))
     go (some h) q ih = rw q (inner h (parse n (h .rest)) (rw q at e) (ih (h .rest)))
 
+-- it is as long as its items
+pub area-length : (n : ℕ) (s : List ℕ) → isSome (parse n s) ≡ true → length (areaBytes (itemsIn n s)) ≡ length s
+unfolding parse areaBytes
+area-length zero [] e = refl
+area-length zero (x ∷ s) e = absurd (true≢false (sym e))
+area-length (suc n) s e = go (plainHead s) refl (λ r. area-length n r)
+  where
+    inner : (h : Head) (o : Option (List Item)) → isSome (Option·map (λ ts. h .item ∷ ts) o) ≡ true → (isSome o ≡ true → length (areaBytes (found o [] (λ ts. ts))) ≡ length (h .rest))
+        → length (areaBytes (found (Option·map (λ ts. h .item ∷ ts) o) [] (λ ts. ts))) ≡ sizeOf (h .item) + length (h .rest)
+    inner h none e ih = absurd (true≢false (sym e))
+    inner h (some ts) e ih = length-area (h .item) ts ∙ ap (λ (i : ℕ). sizeOf (h .item) + i) (ih refl)
+
+    go : (o : Option Head) → plainHead s ≡ o → ((r : List ℕ) → isSome (parse n r) ≡ true → length (areaBytes (itemsIn n r)) ≡ length r) → length (areaBytes (itemsIn (suc n) s)) ≡ length s
+    go none q ih = absurd (true≢false (sym e ∙ rw q))
+    go (some h) q ih =
+        let w = whole s h (plain s h q .0) in
+        let r : length (h .rest) ≡ length s - sizeOf (h .item) = ap length (w .after) ∙ length-drop (sizeOf (h .item)) s in
+        rw q (inner h (parse n (h .rest)) (rw q at e) (ih (h .rest)) ∙ omega (arith, w .long))
+
 -- it is the bytes of its items
 pub area-items : (n : ℕ) (s : List ℕ) → Small s → isSome (parse n s) ≡ true → areaBytes (itemsIn n s) ≡ s
 unfolding parse areaBytes
@@ -295,3 +314,8 @@ parse-fits n s e = go (leb (9 * n) (length s)) refl
     go : (t : Bool) → leb (9 * n) (length s) ≡ t → 9 * n ≤ length s
     go true q = leb-true _ _ q
     go false q = absurd (true≢false (sym e ∙ ap isSome (parse-long n s (leb-false _ _ q))))
+
+pub parse-none : (s : List ℕ) (ts : List Item) → parse 0 s ≡ some ts → ts ≡ []
+unfolding parse
+parse-none [] ts e = cc
+parse-none (x ∷ s) ts e = absurd (let z : _≡_ {A = ℕ} 0 1 = cc in omega arith)

@@ -15,7 +15,7 @@ use Rattle.items.specs.Answers.{locateIn, locateOf, foundAt, findOf}
 use Rattle.items.specs.declared.Place.{Place}
 use Rattle.items.specs.declared.Place.the-variants.{At, Nowhere, Malformed}
 use Rattle.items.specs.declared.Found.the-variants.{Refused}
-use Rattle.items.proofs.Area.{area-items}
+use Rattle.items.proofs.Area.{area-length}
 use Rattle.items.proofs.Located.{Located, located, unlocated, at-not}
 use Rattle.items.proofs.Places.{Split, split, end-within, got, find-get}
 
@@ -40,11 +40,11 @@ pub record There (s : List ℕ) (a k e : ℕ) : Type 0 where
   pub end : k < e
   pub within : e ≤ length s
 
-pub there : (s : List ℕ) (n : ℕ) (key : List ℕ) (a k e : ℕ) → Small s → At a k e ≡ locateOf s n key → There s a k e
-there s n key a k e b q =
+pub there : (s : List ℕ) (n : ℕ) (key : List ℕ) (a k e : ℕ) → At a k e ≡ locateOf s n key → There s a k e
+there s n key a k e q =
     let l = located s n key (At a k e) q (at-not a k e) in
     let x = split key 0 (itemsIn n s) a k e (l .is) in
-    let w = ap length (area-items n s b (l .some)) in
+    let w = area-length n s (l .some) in
     record { key-end = omega (arith, x .key-end); end = omega (arith, x .key-end, x .end); within = omega (arith, w, end-within x) }
 
 -- the part that get hands out is the value of the first match

@@ -14,7 +14,7 @@ use Rattle.items.specs.Items.{Item, Head, plainHead, sizeOf, parse, item
 use Rattle.items.specs.Answers.{locateIn, locateOf}
 use Rattle.items.specs.declared.Place.{Place}
 use Rattle.items.specs.declared.Place.the-variants.{At, Nowhere, Malformed}
-use Rattle.items.proofs.Area.{parse-long, parse-stop, parse-end}
+use Rattle.items.proofs.Area.{parse-long, parse-stop, parse-end, parse-none}
 use Rattle.items.proofs.Walk.{Taken, fewer, key-part}
 
 -- what the search answers of the n items that stand from `at` to the end
@@ -59,21 +59,13 @@ module _ {s : List ℕ} {at g a b c d : ℕ} (n : ℕ) (t : Taken plainHead s at
 
 -- nothing is left
 module _ (s key : List ℕ) (at : ℕ) (within : at ≤ length s) where
-  none-left : (ts : List Item) → parse 0 (drop at s) ≡ some ts → ts ≡ []
-  unfolding parse
-  none-left ts e = go (drop at s) e
-    where
-      go : (r : List ℕ) → parse 0 r ≡ some ts → ts ≡ []
-      go [] e = cc
-      go (x ∷ r) e = absurd (let z : _≡_ {A = ℕ} 0 1 = cc in omega arith)
-
   last : locateFrom s key at 0 ≡ cond (eqb at (length s)) Nowhere Malformed
   unfolding locateIn
   last = go (parse 0 (drop at s)) refl
     where
       go : (o : Option (List Item)) → parse 0 (drop at s) ≡ o → locateFrom s key at 0 ≡ cond (eqb at (length s)) Nowhere Malformed
       go none e = rw (e, ← parse-end s at within, e)
-      go (some ts) e = rw (e, ← parse-end s at within, e, none-left ts e)
+      go (some ts) e = rw (e, ← parse-end s at within, e, parse-none (drop at s) ts e)
 
   pub locate-none : at ≡ length s → locateFrom s key at 0 ≡ Nowhere
   locate-none e = last ∙ rw (eq-eqb at (length s) e)

@@ -19,9 +19,8 @@ here : (c : tie.After-known-told) → let v = c .before .p .given .0 in
     There (c .before .before .before .before .before .before .args .area .now) (v .0) (v .1 .0) (v .1 .1 .0)
 here c =
     let l = c .before .before .before in
-    let b = l .before .before in
-    let g = b .before .args in
-    there (g .area .now) (g .count) (g .key .now) _ _ _ (λ i. omega (arith, b .shared-slice-known .given i)) (sym (c .before .p .given .1) ∙ l .locate .ensures)
+    let g = l .before .before .before .args in
+    there (g .area .now) (g .count) (g .key .now) _ _ _ (sym (c .before .p .given .1) ∙ l .locate .ensures)
 
 returns-2 : tie.Need-returns-2
 returns-2 c =
