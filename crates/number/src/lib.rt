@@ -1,0 +1,96 @@
+// Whole numbers in texts, read and written. Nothing here knows a tag.
+ghost use mathlib.Core.Path.{_≡_};
+ghost use mathlib.Core.Option.{Option};
+ghost use Prim.Native.Nat.{_+_, _-_, _≤_, _<_, _^_};
+ghost use lib.ListN.{length, take, drop};
+ghost use lib.Dec.{leb};
+ghost use Rattle.lists.specs.Choice.{provided};
+ghost use Rattle.lists.specs.Write.{splice};
+ghost use Rattle.number.specs.Trim as T;
+ghost use Rattle.number.specs.Fields as F;
+ghost use Rattle.number.specs.Reading as R;
+ghost use Rattle.number.specs.Writing as W;
+
+// A text that was written: its bytes, zeros behind them, and how many there are.
+pub struct Text {
+    pub bytes: [u8; 32],
+    pub len: usize,
+}
+
+// Digits that were read.
+pub enum Natural {
+    Value(u32),
+    Nothing,
+}
+
+// A field that should be a number of 32 bits with a sign.
+pub enum I32Field {
+    Value(i32),
+    Nothing,
+}
+
+// A field that should be a byte's number.
+pub enum U8Field {
+    Value(u8),
+    Nothing,
+}
+
+pub fn is_space(x: u8) -> bool
+    ensures { λ r. ⌜ r ≡ T.isSpace x ⌝ }
+{
+    if x < 9 {
+        return false;
+    }
+    if x <= 13 {
+        return true;
+    }
+    x == 32
+}
+
+pub fn is_digit(x: u8) -> bool
+    ensures { λ r. ⌜ r ≡ R.isDigit x ⌝ }
+{
+    if x < 48 {
+        return false;
+    }
+    x <= 57
+}
+
+// The place of the first byte that is no space.
+fn front(s: &[u8]) -> usize
+    ensures { λ r. ⌜ (r ≤ length (now (s .entry))) × (drop r (now (s .entry)) ≡ T.trimLeft (now (s .entry))) ⌝ }
+{
+    let mut i = 0;
+    while i < s.len() {
+        if !is_space(s[i]) {
+            return i;
+        }
+        i += 1;
+    }
+    i
+}
+
+// The place behind the last byte that is no space.
+fn back(s: &[u8]) -> usize
+    ensures { λ r. ⌜ (r ≤ length (now (s .entry))) × (take r (now (s .entry)) ≡ T.trimRight (now (s .entry))) ⌝ }
+{
+    let mut n = s.len();
+    while 0 < n {
+        let k = n - 1;
+        if !is_space(s[k]) {
+            return n;
+        }
+        n = k;
+    }
+    n
+}
+
+// The text without the spaces at its ends.
+pub fn trim<'a>(s: &'a [u8]) -> &'a [u8]
+    ensures { λ r. ⌜ now r ≡ T.trim (now (s .entry)) ⌝ }
+{
+    let a = front(s);
+    let t = &s[a..];
+    let n = back(t);
+    &t[0..n]
+}
