@@ -61,7 +61,7 @@ i32 s = provided isI32 (whole (trim s))
 
 -- a number field of a range; `-` is no sign here, so `-0` does not parse
 unfoldable pub u8 : List ℕ → Option ℕ
-u8 s = cond (isMinus (trim s)) none (provided (λ n. ltb n 256) (natural (unsigned (trim s))))
+u8 s = cond (isMinus (trim s)) none (provided (λ n. leb n 255) (natural (unsigned (trim s))))
 
 -- the code's answers
 abbrev pub naturalOf : Option ℕ → n.Natural

@@ -94,3 +94,64 @@ pub fn trim<'a>(s: &'a [u8]) -> &'a [u8]
     let n = back(t);
     &t[0..n]
 }
+
+// What a digit stands for.
+fn digit_value(x: u8) -> u64
+    ensures { λ r. ⌜ (r ≡ x - 48) × (r < 256) ⌝ }
+{
+    if x < 48 {
+        return 0;
+    }
+    (x - 48) as u64
+}
+
+// Digits, one at least, that give a number up to `limit`.
+pub fn parse_natural(s: &[u8], limit: u32) -> Natural
+    ensures { λ r. ⌜ r ≡ R.naturalOf (provided (λ n. leb n limit) (R.natural (now (s .entry)))) ⌝ }
+{
+    if s.len() == 0 {
+        return Natural::Nothing;
+    }
+    let most = limit as u64;
+    let mut n: u64 = 0;
+    let mut i = 0;
+    while i < s.len() {
+        let x = s[i];
+        if !is_digit(x) {
+            return Natural::Nothing;
+        }
+        n = n * 10 + digit_value(x);
+        if most < n {
+            return Natural::Nothing;
+        }
+        i += 1;
+    }
+    Natural::Value(n as u32)
+}
+
+// Whether a `-` stands in front.
+pub fn is_minus(s: &[u8]) -> bool
+    ensures { λ r. ⌜ r ≡ R.isMinus (now (s .entry)) ⌝ }
+{
+    if s.len() == 0 {
+        return false;
+    }
+    s[0] == b'-'
+}
+
+// How many bytes the sign has.
+pub fn sign_len(s: &[u8]) -> usize
+    ensures { λ r. ⌜ (r ≤ length (now (s .entry))) × (drop r (now (s .entry)) ≡ R.unsigned (now (s .entry))) ⌝ }
+{
+    if s.len() == 0 {
+        return 0;
+    }
+    let x = s[0];
+    if x == b'+' {
+        return 1;
+    }
+    if x == b'-' {
+        return 1;
+    }
+    0
+}
