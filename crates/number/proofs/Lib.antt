@@ -1,2 +1,4 @@
 pub mod Spaces
 pub mod Digits
+pub mod Limits
+pub mod Cuts

@@ -1,4 +1,5 @@
 // Whole numbers in texts, read and written. Nothing here knows a tag.
+use integers::Apart;
 ghost use mathlib.Core.Path.{_≡_};
 ghost use mathlib.Core.Option.{Option};
 ghost use Prim.Native.Nat.{_+_, _-_, _≤_, _<_, _^_};
@@ -154,4 +155,68 @@ pub fn sign_len(s: &[u8]) -> usize
         return 1;
     }
     0
+}
+
+// An optional sign and digits, nothing trimmed.
+pub fn parse_whole(s: &[u8]) -> I32Field
+    ensures { λ r. ⌜ r ≡ R.i32Of (provided R.isI32 (R.whole (now (s .entry)))) ⌝ }
+{
+    let at = sign_len(s);
+    let digits = &s[at..];
+    if is_minus(s) {
+        let Natural::Value(n) = parse_natural(digits, 2147483648) else {
+            return I32Field::Nothing;
+        };
+        if n == 0 {
+            return I32Field::Value(0);
+        }
+        return I32Field::Value(integers::together(Apart {
+            down: true,
+            by: n - 1,
+        }));
+    }
+    let Natural::Value(n) = parse_natural(digits, 2147483647) else {
+        return I32Field::Nothing;
+    };
+    I32Field::Value(integers::together(Apart { down: false, by: n }))
+}
+
+// A field of an undo text.
+pub fn parse_i32(s: &[u8]) -> I32Field
+    ensures { λ r. ⌜ r ≡ R.i32Of (R.i32 (now (s .entry))) ⌝ }
+{
+    parse_whole(trim(s))
+}
+
+// A field of a range: no `-`, not even before 0.
+pub fn parse_u8(s: &[u8]) -> U8Field
+    ensures { λ r. ⌜ r ≡ R.u8Of (R.u8 (now (s .entry))) ⌝ }
+{
+    let t = trim(s);
+    if is_minus(t) {
+        return U8Field::Nothing;
+    }
+    let at = sign_len(t);
+    let Natural::Value(n) = parse_natural(&t[at..], 255) else {
+        return U8Field::Nothing;
+    };
+    U8Field::Value(n as u8)
+}
+
+// Field `n` of the fields between commas, empty where there is none.
+pub fn field<'a>(s: &'a [u8], n: usize) -> &'a [u8]
+    ensures { λ r. ⌜ now r ≡ F.field n (now (s .entry)) ⌝ }
+{
+    let mut at = 0;
+    let mut left = n;
+    while 0 < left {
+        let e = lists::find_byte(s, at, b',');
+        if e == s.len() {
+            return &s[e..e];
+        }
+        at = e + 1;
+        left -= 1;
+    }
+    let e = lists::find_byte(s, at, b',');
+    &s[at..e]
 }
