@@ -1,4 +1,6 @@
+pub mod Lists
 pub mod Spaces
 pub mod Digits
 pub mod Limits
 pub mod Cuts
+pub mod Places
