@@ -1,0 +1,3 @@
+pub mod Gains
+pub mod Tails
+pub mod GainLists
