@@ -1,0 +1,217 @@
+-- Laws of keys: equality without case is an equivalence, upper-casing keeps a key equal, and the lookup goes by the key without case.
+use Prim.Native.Nat.{ℕ, zero, suc, _+_, _-_, _≤_, _<_}
+use native.Mathlib.Omega.{arith}
+use native.Mathlib.Numerals.{add-one}
+use mathlib.Core.Path.{_≡_, refl, sym, ap, _∙_, fun-ext}
+use mathlib.Core.Bool.{Bool, true, false, not, _&&_, cond, and-eq-true-iff, true≢false}
+use mathlib.Core.Option.{Option, none, some, Option·map}
+use mathlib.Core.List.{List, [], _∷_, map, map-map}
+use lib.ListN.{length, getD, drop, length-map}
+use lib.Seq.{drop-cons}
+use lib.Dec.{leb, eqb}
+use borrow.Author.Tests.{lt-leb, le-leb, leb-true, ne-eqb}
+use Rattle.lists.specs.Bytes.{among, all, same, placeOf}
+use Rattle.lists.specs.Choice.{found, isSome}
+use Rattle.lists.proofs.Same.{same-true, same-refl, same-unequal}
+use Rattle.keys.specs.Keys.{upper, upperAll, sameKey, whichOf, keys, whichKey, whichIs, isFrom, isMp3gainKey, isUndone, isReplayGain, undoKey, minmaxKey, printable, isReserved, isKey}
+use Rattle.keys.specs.declared.Which.{Which}
+use Rattle.keys.specs.declared.Which.the-variants.{Key, Other}
+
+-- ---- equal without case is equal in upper case
+
+pub key-true : (a b : List ℕ) → sameKey a b ≡ true → upperAll a ≡ upperAll b
+unfolding sameKey
+key-true a b e = same-true (upperAll a) (upperAll b) e
+
+pub key-same : (a b : List ℕ) → upperAll a ≡ upperAll b → sameKey a b ≡ true
+unfolding sameKey
+key-same a b e = rw e (same-refl (upperAll b))
+
+pub key-refl : (a : List ℕ) → sameKey a a ≡ true
+key-refl a = key-same a a refl
+
+pub key-sym : (a b : List ℕ) → sameKey a b ≡ true → sameKey b a ≡ true
+key-sym a b e = key-same b a (sym (key-true a b e))
+
+pub key-trans : (a b c : List ℕ) → sameKey a b ≡ true → sameKey b c ≡ true → sameKey a c ≡ true
+key-trans a b c e f = key-same a c (key-true a b e ∙ key-true b c f)
+
+-- ---- upper case
+
+pub in-range : (a b x : ℕ) → among a b x ≡ true → (a ≤ x) × (x ≤ b)
+in-range a b x e =
+    let (p, q) = and-eq-true-iff (leb a x) (leb x b) .0 e in
+    (leb-true a x p, leb-true x b q)
+
+upper-twice : (x : ℕ) → upper (upper x) ≡ upper x
+unfolding upper
+upper-twice x = go (among 97 122 x) refl
+  where
+    go : (t : Bool) → among 97 122 x ≡ t → upper (upper x) ≡ upper x
+    go true e = let (l, h) = in-range 97 122 x e in rw (e, lt-leb 97 (x - 32) (omega arith))
+    go false e = rw (e, e)
+
+upperAll-twice : (a : List ℕ) → upperAll (upperAll a) ≡ upperAll a
+unfolding upperAll
+upperAll-twice a = map-map upper upper a ∙ ap (λ f. map f a) (fun-ext upper-twice)
+
+pub key-upper : (a : List ℕ) → sameKey (upperAll a) a ≡ true
+key-upper a = key-same (upperAll a) a (upperAll-twice a)
+
+pub length-upper : (a : List ℕ) → length (upperAll a) ≡ length a
+unfolding upperAll
+length-upper a = length-map a upper
+
+pub getD-upper : (a : List ℕ) (i : ℕ) → i < length a → getD (upperAll a) i 0 ≡ upper (getD a i 0)
+unfolding upperAll
+getD-upper [] i h = absurd (omega arith)
+getD-upper (x ∷ a) zero h = refl
+getD-upper (x ∷ a) (suc i) h = getD-upper a i (omega arith)
+
+-- ---- a loop that compares two keys, at i
+
+-- keys of two lengths differ
+pub key-unequal : (a b : List ℕ) → (length a ≡ length b → ⊥) → sameKey a b ≡ false
+unfolding sameKey
+key-unequal a b h = same-unequal (upperAll a) (upperAll b) (λ e. h (sym (length-upper a) ∙ e ∙ length-upper b))
+
+-- what is left from i: the letters there, and what is left from i + 1
+pub key-step : (a b : List ℕ) (i : ℕ) → i < length a → i < length b
+    → sameKey (drop i a) (drop i b) ≡ (eqb (upper (getD a i 0)) (upper (getD b i 0)) && sameKey (drop (i + 1) a) (drop (i + 1) b))
+unfolding sameKey same upperAll
+key-step a b i p q = rw (drop-cons a i 0, drop-cons b i 0, add-one)
+
+pub key-nil : sameKey [] [] ≡ true
+unfolding sameKey same upperAll
+key-nil = refl
+
+-- ---- tests that read keys without regard to case
+
+pub record Caseless (p : List ℕ → Bool) : Type 0 where
+  pub cased : (a b : List ℕ) → sameKey a b ≡ true → p a ≡ p b
+
+pub same-caseless : (key : List ℕ) → Caseless (sameKey key)
+same-caseless key = record { cased = λ a b e. unfold sameKey in rw (key-true a b e) }
+
+-- ---- the lookup
+
+pub which-same : (ns : List (List ℕ)) (a b : List ℕ) → sameKey a b ≡ true → whichOf ns a ≡ whichOf ns b
+unfolding whichOf sameKey
+which-same [] a b e = refl
+which-same (n ∷ ns) a b e = rw (key-true a b e, which-same ns a b e)
+
+pub which-upper : (ns : List (List ℕ)) (k : List ℕ) → whichOf ns (upperAll k) ≡ whichOf ns k
+which-upper ns k = which-same ns (upperAll k) k (key-upper k)
+
+-- the place found is a place of the list, and its name is the key without case
+pub which-is : (ns : List (List ℕ)) (k : List ℕ) (i : ℕ) → whichOf ns k ≡ some i → (i < length ns) × (sameKey k (getD ns i []) ≡ true)
+unfolding whichOf
+which-is [] k i e = absurd (let z : _≡_ {A = ℕ} 0 1 = cc in omega arith)
+which-is (n ∷ ns) k i e = go (sameKey k n) (whichOf ns k) refl refl e (which-is ns k)
+  where
+    go : (t : Bool) (o : Option ℕ) → sameKey k n ≡ t → whichOf ns k ≡ o → cond t (some 0) (Option·map suc o) ≡ some i
+        → ((j : ℕ) → whichOf ns k ≡ some j → (j < length ns) × (sameKey k (getD ns j []) ≡ true))
+        → (i < suc (length ns)) × (sameKey k (getD (n ∷ ns) i []) ≡ true)
+    go true o u w e f = let q : _≡_ {A = ℕ} 0 i = cc in rw (← q) (omega arith, u)
+    go false none u w e f = absurd (let z : _≡_ {A = ℕ} 0 1 = cc in omega arith)
+    go false (some j) u w e f = let q : suc j ≡ i = cc in let (l, s) = f j w in rw (← q) (omega arith, s)
+
+-- what an answer of the code says
+pub which-some : (o : Option ℕ) (i : ℕ) → Key i ≡ whichIs o → o ≡ some i
+which-some none i e = absurd (let z : _≡_ {A = ℕ} 0 1 = cc in omega arith)
+which-some (some j) i e = cc
+
+pub which-none : (o : Option ℕ) → Other ≡ whichIs o → o ≡ none
+which-none none e = refl
+which-none (some j) e = absurd (let z : _≡_ {A = ℕ} 0 1 = cc in omega arith)
+
+-- the eight keys are good keys, each found at its place
+pub keys-found : (map whichKey keys ≡ some 0 ∷ some 1 ∷ some 2 ∷ some 3 ∷ some 4 ∷ some 5 ∷ some 6 ∷ some 7 ∷ [])
+    × (map isKey keys ≡ true ∷ true ∷ true ∷ true ∷ true ∷ true ∷ true ∷ true ∷ [])
+unfolding keys whichKey whichOf sameKey same upperAll upper isKey isReserved all
+keys-found = (refl, refl)
+
+-- ---- the eight keys and their sub-lists
+
+pub from-caseless : (n : ℕ) → Caseless (isFrom n)
+from-caseless n = record { cased = λ a b e. unfold isFrom whichKey in rw (which-same keys a b e) }
+
+-- the shorter sub-list is part of the longer one
+pub from-less : (m n : ℕ) → m ≤ n → (key : List ℕ) → isFrom n key ≡ true → isFrom m key ≡ true
+unfolding isFrom
+from-less m n h key e = go (whichKey key) e
+  where
+    go : (o : Option ℕ) → found o false (λ i. leb n i) ≡ true → found o false (λ i. leb m i) ≡ true
+    go none e = e
+    go (some i) e = let l : n ≤ i = leb-true n i e in le-leb m i (omega arith)
+
+-- UNDONE_KEYS and REPLAYGAIN_KEYS are of the eight
+pub undone-eight : (key : List ℕ) → isUndone key ≡ true → isMp3gainKey key ≡ true
+undone-eight key e = from-less 0 2 (omega arith) key e
+
+pub replaygain-eight : (key : List ℕ) → isReplayGain key ≡ true → isMp3gainKey key ≡ true
+replaygain-eight key e = from-less 0 3 (omega arith) key e
+
+-- the keys that level sets are of the eight, and none of UNDONE_KEYS
+pub undo-eight : (isMp3gainKey undoKey ≡ true) × (isMp3gainKey minmaxKey ≡ true)
+unfolding isFrom whichKey whichOf keys undoKey minmaxKey sameKey same upperAll upper
+undo-eight = (refl, refl)
+
+pub undo-stays : (isUndone undoKey ≡ false) × (isUndone minmaxKey ≡ false)
+unfolding isFrom whichKey whichOf keys undoKey minmaxKey sameKey same upperAll upper
+undo-stays = (refl, refl)
+
+-- a key that is none of the eight is neither of them
+pub apart : (p : List ℕ → Bool) → Caseless p → (key other : List ℕ) → p key ≡ false → p other ≡ true → sameKey key other ≡ false
+apart p c key other n y = go (sameKey key other) refl
+  where
+    go : (a : Bool) → sameKey key other ≡ a → sameKey key other ≡ false
+    go true e = absurd (true≢false (sym y ∙ sym (c .cased key other e) ∙ n))
+    go false e = e
+
+pub not-undo : (key : List ℕ) → isMp3gainKey key ≡ false → sameKey key undoKey ≡ false
+not-undo key n = apart isMp3gainKey (from-caseless 0) key undoKey n (undo-eight .0)
+
+pub not-minmax : (key : List ℕ) → isMp3gainKey key ≡ false → sameKey key minmaxKey ≡ false
+not-minmax key n = apart isMp3gainKey (from-caseless 0) key minmaxKey n (undo-eight .1)
+
+-- ---- good keys
+
+-- a good key has no zero byte
+pub printable-whole : (s : List ℕ) → all printable s ≡ true → placeOf 0 s ≡ length s
+unfolding all placeOf
+printable-whole [] p = refl
+printable-whole (b ∷ s) p =
+    let (q, r) = and-eq-true-iff (printable b) (all printable s) .0 p in
+    let (l, h) = in-range 32 126 b q in
+    rw (ne-eqb b 0 (λ z. omega arith)) (ap suc (printable-whole s r))
+
+printable-byte : (b : ℕ) → printable b ≡ true → printable (upper b) ≡ true
+unfolding upper
+printable-byte b q = go (among 97 122 b) refl
+  where
+    go : (t : Bool) → among 97 122 b ≡ t → printable (upper b) ≡ true
+    go true e =
+        let (l, h) = in-range 97 122 b e in
+        rw (e, le-leb 32 (b - 32) (omega arith), le-leb (b - 32) 126 (omega arith))
+    go false e = rw e q
+
+pub printable-upper : (s : List ℕ) → all printable s ≡ true → all printable (upperAll s) ≡ true
+unfolding all upperAll
+printable-upper [] p = refl
+printable-upper (b ∷ s) p =
+    let (q, r) = and-eq-true-iff (printable b) (all printable s) .0 p in
+    rw (printable-byte b q) (printable-upper s r)
+
+pub key-printable : (k : List ℕ) → isKey k ≡ true → all printable k ≡ true
+unfolding isKey
+key-printable k e =
+    let (l, r) = and-eq-true-iff (among 2 255 (length k)) (all printable k && not (isReserved k)) .0 e in
+    and-eq-true-iff (all printable k) (not (isReserved k)) .0 r .0
+
+-- the length of a good key
+pub key-length : (k : List ℕ) → isKey k ≡ true → (2 ≤ length k) × (length k ≤ 255)
+unfolding isKey
+key-length k e =
+    let (l, r) = and-eq-true-iff (among 2 255 (length k)) (all printable k && not (isReserved k)) .0 e in
+    in-range 2 255 (length k) l

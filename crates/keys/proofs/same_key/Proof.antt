@@ -1,0 +1,59 @@
+-- The invariant: the two are the same where what is left of them from i is.
+use mathlib.Core.Path.{_≡_, refl, ap, sym, _∙_}
+use Prim.Native.Nat.{_≤_, _-_}
+use native.Mathlib.Omega.{arith}
+use borrow.Author.Needs.{needs}
+use borrow.Author.Tests.{eq-eqb, ne-eqb}
+use lib.ListN.{length, drop, drop-of-length-le}
+use Rattle.keys.specs.Keys.{upper, sameKey}
+use Rattle.keys.proofs.Keys.{key-unequal, key-step, key-nil}
+use Rattle.keys.proofs.same_key.Statement.{statement}
+use Rattle.keys.proofs.same_key.Tie as tie
+
+abbrev Inv-loop : tie.InvT-loop
+Inv-loop a b i₀ i = (length a ≡ length b) × (i ≤ length a) × (sameKey a b ≡ sameKey (drop i a) (drop i b))
+
+abbrev μ-loop : tie.MeasureT-loop
+μ-loop a b i₀ i = length a - i
+
+returns : tie.Need-returns Inv-loop μ-loop
+returns c = let g = c .before .before .before .args in sym (key-unequal (g .a .now) (g .b .now) (c .if1 .taken))
+
+returns-2 : tie.Need-returns-2 Inv-loop μ-loop
+returns-2 c =
+    let l = c .before .before .before .before .before .before in
+    let g = l .before .before .before .before .args in
+    sym (l .loop .inv .2 ∙ rw (key-step (g .a .now) (g .b .now) (l .loop .i) (omega arith) (omega arith), ne-eqb _ _ (λ e. c .if2 .taken (c .before .before .before .upper-case .ensures ∙ e ∙ sym (c .before .upper-case2 .ensures)))))
+
+loop-again : tie.Need-loop-again Inv-loop μ-loop
+loop-again c =
+    let l = c .before .before .before .before .before .before in
+    let g = l .before .before .before .before .args in (
+      l .loop .inv .0,
+      omega arith,
+      l .loop .inv .2 ∙ rw (key-step (g .a .now) (g .b .now) (l .loop .i) (omega arith) (omega arith), eq-eqb _ _ (sym (c .before .before .before .upper-case .ensures) ∙ c .if2 .left ∙ c .before .upper-case2 .ensures)),
+    )
+
+returns-3 : tie.Need-returns-3 Inv-loop μ-loop
+returns-3 c =
+    let l = c .before in
+    let g = l .before .before .before .before .args in
+    sym (l .loop .inv .2 ∙ rw (drop-of-length-le (g .a .now) {i = l .loop .i} (omega arith), drop-of-length-le (g .b .now) {i = l .loop .i} (omega arith)) key-nil)
+
+pub same-key-spec : {M : Type 1} → statement M
+same-key-spec =
+    tie.close
+    (tie.spec
+    Inv-loop
+    μ-loop
+    returns
+    (λ c. (c .if1 .left, omega arith, refl))
+    (λ c. omega arith)
+    (λ c κs. search needs)
+    (λ c. omega arith)
+    (λ c κs. search needs)
+    returns-2
+    (λ c. omega arith)
+    (λ c. omega arith)
+    loop-again
+    returns-3)

@@ -1,0 +1,60 @@
+-- The invariant: the place of the key is what a search from i answers.
+use mathlib.Core.Path.{_≡_, refl, sym, ap, _∙_}
+use Prim.Native.Nat.{_≤_, _<_, _-_}
+use native.Mathlib.Omega.{arith}
+use borrow.Author.Needs.{needs}
+use lib.ListN.{drop}
+use Rattle.keys.specs.Keys.{keys, whichOf, whichKey, whichIs}
+use Rattle.keys.proofs.Table.{within, from, which-start, turn, over}
+use Rattle.keys.proofs.which_key.Statement.{statement}
+use Rattle.keys.proofs.which_key.Tie as tie
+
+abbrev Inv-loop : tie.InvT-loop
+Inv-loop key table i₀ i = (i ≤ 8) × (whichKey key ≡ from i (whichOf (drop i keys) key))
+
+abbrev μ-loop : tie.MeasureT-loop
+μ-loop key table i₀ i = 8 - i
+
+loop-holds : tie.Need-loop-holds Inv-loop μ-loop
+unfolding whichKey
+loop-holds c = (omega arith, which-start _)
+
+returns : tie.Need-returns Inv-loop μ-loop
+returns c =
+    let l = c .before .before .before .before .before .before .before in
+    let i = l .loop .i in
+    let key = l .before .before .args .key .now in
+    let in8 : i < 8 = omega arith in
+    sym (ap whichIs (l .loop .inv .1 ∙ turn key i in8 _ _ _ (c .before .same-key .ensures) (c .if1 .taken)))
+
+loop-again : tie.Need-loop-again Inv-loop μ-loop
+loop-again c =
+    let l = c .before .before .before .before .before .before .before in
+    let i = l .loop .i in
+    let key = l .before .before .args .key .now in
+    let in8 : i < 8 = omega arith in
+    (omega arith, l .loop .inv .1 ∙ turn key i in8 _ _ _ (c .before .same-key .ensures) (c .if1 .left))
+
+returns-2 : tie.Need-returns-2 Inv-loop μ-loop
+returns-2 c =
+    let l = c .before in
+    sym (ap whichIs (l .loop .inv .1 ∙ over (l .before .before .args .key .now) (l .loop .i) (omega arith)))
+
+pub which-key-spec : {M : Type 1} → statement M
+which-key-spec =
+    tie.close
+    (tie.spec
+    Inv-loop
+    μ-loop
+    loop-holds
+    (λ c. omega arith)
+    (λ c. omega arith)
+    (λ c. omega arith)
+    (λ c. omega arith)
+    (λ c. within _ (c .before .before .before .before .loop .i) (omega arith))
+    (λ c κs. search needs)
+    returns
+    (λ c. omega arith)
+    (λ c. omega arith)
+    loop-again
+    returns-2)
