@@ -4,3 +4,4 @@ pub mod Digits
 pub mod Limits
 pub mod Cuts
 pub mod Places
+pub mod ReadBack
