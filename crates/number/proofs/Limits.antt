@@ -27,6 +27,22 @@ pub nothing-is : (o : Option ℕ) → Nothing ≡ naturalOf o → o ≡ none
 nothing-is none e = refl
 nothing-is (some m) e = cc
 
+pub i32-value-is : (o : Option ℤ) (z : ℤ) → i.Value z ≡ i32Of o → o ≡ some z
+i32-value-is none z e = cc
+i32-value-is (some y) z e = let q : z ≡ y = cc in ap some (sym q)
+
+pub i32-nothing-is : (o : Option ℤ) → i.Nothing ≡ i32Of o → o ≡ none
+i32-nothing-is none e = refl
+i32-nothing-is (some y) e = cc
+
+pub u8-value-is : (o : Option ℕ) (n : ℕ) → u.Value n ≡ u8Of o → o ≡ some n
+u8-value-is none n e = cc
+u8-value-is (some m) n e = let q : n ≡ m = cc in ap some (sym q)
+
+pub u8-nothing-is : (o : Option ℕ) → u.Nothing ≡ u8Of o → o ≡ none
+u8-nothing-is none e = refl
+u8-nothing-is (some m) e = cc
+
 pub provided-holds : {A : Type 0} (p : A → Bool) (o : Option A) (a : A) → provided p o ≡ some a → p a ≡ true
 provided-holds p none a e = cc
 provided-holds p (some b) a e = go (p b) refl e

@@ -2,19 +2,20 @@
 use Prim.Native.Nat.{ℕ, zero, suc, _+_, _-_, _*_, _/_, _%_, _^_, _≤_, _<_}
 use native.Mathlib.Omega.{arith}
 use native.Mathlib.Numerals.{add-one}
-use native.Mathlib.Nat.{add-zero, pow-suc}
+use native.Mathlib.Nat.{add-zero, zero-add}
 use mathlib.Core.Path.{_≡_, refl, sym, ap, _∙_}
 use mathlib.Core.Bool.{Bool, true, false, cond}
 use mathlib.Core.List.{List, [], _∷_, _++_, append-assoc, append-nil}
-use lib.ListN.{length, take, drop, set, length-append, length-set}
+use lib.ListN.{length, take, drop, set, length-append, replicate}
 use lib.Seq.{take-suc}
 use lib.Dec.{ltb}
 use lib.IntN.{ℤ, pos, negsuc, natAbs}
 use lib.Signed.{mag, ltZ}
 use borrow.Author.Tests.{lt-ltb, le-ltb}
 use Rattle.lists.specs.Write.{splice}
-use Rattle.lists.proofs.Wrote.{start}
-use Rattle.number.specs.Writing.{places, decimal, isNegative}
+use Rattle.lists.proofs.Wrote.{Wrote, start, from-start}
+use Rattle.number.specs.Writing.{places, decimal, isNegative, textOf}
+use Rattle.number.specs.declared.Text.{Text}
 use Rattle.number.proofs.Lists.{put-before}
 
 pub length-places : (k n : ℕ) → length (places k n) ≡ k
@@ -74,3 +75,10 @@ decimal-end k m n h = rw h
 pub negative : (z : ℤ) → ltZ z (pos 0) ≡ isNegative z
 negative (pos n) = le-ltb n 0 (omega arith)
 negative (negsuc n) = refl
+
+-- ---- a text handed out
+
+pub text-is : {w xs : List ℕ} {k : ℕ} → Wrote (replicate 32 0) 0 w k xs → (text : List ℕ) → w ≡ text → _≡_ {A = Text} (record { bytes = xs; len = k }) (textOf text)
+text-is {w} {xs} {k} x text e =
+    let n : k ≡ length w = x .ends ∙ zero-add (length w) in
+    rw (from-start x, n, e)
