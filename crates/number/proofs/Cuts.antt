@@ -2,6 +2,7 @@
 use Prim.Native.Nat.{ℕ, zero, suc, _+_, _-_, _≤_, _<_}
 use native.Mathlib.Omega.{arith}
 use native.Mathlib.Numerals.{add-one}
+use native.Mathlib.Nat.{zero-add}
 use mathlib.Core.Path.{_≡_, refl, sym, ap, _∙_}
 use mathlib.Core.Bool.{Bool, true, false, cond}
 use mathlib.Core.Option.{Option, none, some}
@@ -11,6 +12,7 @@ use lib.Dec.{ltb, eqb, leb·suc-suc}
 use lib.Seq.{drop-drop}
 use borrow.Author.Tests.{lt-ltb, le-ltb}
 use Rattle.lists.proofs.Places.{place-within}
+use Rattle.lists.proofs.Wrote.{rest}
 use Rattle.lists.specs.Bytes.{placeOf}
 use Rattle.lists.specs.Choice.{found}
 use Rattle.number.specs.Fields.{before, behind, field}
@@ -74,3 +76,24 @@ field-next s at (suc n) e h q l =
     let d : drop (e - at + 1) (drop at s) ≡ drop (e + 1) s = drop-drop (e - at + 1) at s ∙ ap (λ (k : ℕ). drop k s) k in
     let m : suc n - 1 ≡ n = omega arith in
     rw (cut-some 0x2C (drop at s) (e - at) (place-from s at e q) (rw length-drop (omega arith)), m, d)
+
+-- ---- the parts as code lends them: &s[0..e] and &s[e + 1..], where c was looked for from the start
+
+module _ (c : ℕ) (s : List ℕ) (e : ℕ) (q : e ≡ 0 + placeOf c s) where
+  place : e ≡ placeOf c s
+  place = q ∙ zero-add (placeOf c s)
+
+  pub front-is : take (e - 0) s ≡ before c s
+  front-is = cut-before c s (e - 0) (omega (arith, place))
+
+  pub within-text : e ≤ length s
+  within-text = omega (arith, place, place-within c s)
+
+  pub no-back : e ≡ length s → behind c s ≡ none
+  no-back h = cut-none c s e place (omega arith)
+
+  pub within-back : (e ≡ length s → ⊥) → e + 1 ≤ length s
+  within-back h = omega (arith, place, place-within c s)
+
+  pub back-is : (e ≡ length s → ⊥) → behind c s ≡ some (take (length s - (e + 1)) (drop (e + 1) s))
+  back-is h = let l = within-back h in cut-some c s e place (omega arith) ∙ ap some (sym (rest s (e + 1)))

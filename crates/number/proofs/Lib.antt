@@ -5,3 +5,4 @@ pub mod Limits
 pub mod Cuts
 pub mod Places
 pub mod ReadBack
+pub mod Signs

@@ -8,7 +8,7 @@ use number::U8Field;
 ghost use mathlib.Core.Path.{_≡_};
 ghost use mathlib.Core.Bool.{not};
 ghost use mathlib.Core.Option.{Option·getD};
-ghost use Prim.Native.Nat.{_<_};
+ghost use Prim.Native.Nat.{_<_, min};
 ghost use lib.IntN.{_+ℤ_, _-ℤ_};
 ghost use Rattle.number.specs.Reading.{i32, isU8};
 ghost use Rattle.number.specs.Writing.{textOf};
@@ -92,4 +92,140 @@ pub fn format_minmax(least: u8, greatest: u8) -> Text
     let b = lists::put(&mut bytes, a, b",");
     let len = number::put_places(&mut bytes, b, 3, greatest as u32);
     Text { bytes, len }
+}
+
+// The nearest size that an i32 has.
+fn capped(n: u32) -> u32
+    ensures { λ r. ⌜ r ≡ min 2147483647 n ⌝ }
+{
+    if 2147483647 < n {
+        return 2147483647;
+    }
+    n
+}
+
+// x - y, held within what an i32 has.
+fn difference(x: Apart, y: Apart) -> Apart
+    requires { ⌜ (x .by < 2147483648) × (y .by < 2147483648) ⌝ }
+    ensures { λ r. ⌜ (wholeOf r ≡ U.sat32 (wholeOf x -ℤ wholeOf y)) × (r .by < 2147483648) ⌝ }
+{
+    if x.down {
+        if y.down {
+            if y.by < x.by {
+                return Apart {
+                    down: true,
+                    by: x.by - y.by - 1,
+                };
+            }
+            return Apart {
+                down: false,
+                by: y.by - x.by,
+            };
+        }
+        return Apart {
+            down: true,
+            by: capped(x.by + y.by),
+        };
+    }
+    if y.down {
+        return Apart {
+            down: false,
+            by: capped(x.by + y.by + 1),
+        };
+    }
+    if x.by < y.by {
+        return Apart {
+            down: true,
+            by: y.by - x.by - 1,
+        };
+    }
+    Apart {
+        down: false,
+        by: x.by - y.by,
+    }
+}
+
+fn saturating_sub(a: i32, b: i32) -> i32
+    ensures { λ r. ⌜ r ≡ U.sat32 (a -ℤ b) ⌝ }
+{
+    let x = integers::take_apart(a);
+    let y = integers::take_apart(b);
+    integers::together(difference(x, y))
+}
+
+// The undo numbers after a further apply: the steps are subtracted from what is stored.
+pub fn accumulate_undo(text: &[u8], left: GainSteps, right: GainSteps) -> UndoValues
+    ensures { λ r. ⌜ r ≡ U.accumulated (now (text .entry)) (left .0) (right .0) ⌝ }
+{
+    let stored = parse_undo_values(text);
+    UndoValues {
+        left: saturating_sub(stored.left, left.0),
+        right: saturating_sub(stored.right, right.0),
+    }
+}
+
+// Reads a range: all before and all after the first comma.
+fn parse_range(text: &[u8]) -> RangeField
+    ensures { λ r. ⌜ r ≡ R.rangeIs (R.parseRange (now (text .entry))) ⌝ }
+{
+    let e = lists::find_byte(text, 0, b',');
+    if e == text.len() {
+        return RangeField::Nothing;
+    }
+    let U8Field::Value(least) = number::parse_u8(&text[0..e]) else {
+        return RangeField::Nothing;
+    };
+    let f = e + 1;
+    let U8Field::Value(greatest) = number::parse_u8(&text[f..]) else {
+        return RangeField::Nothing;
+    };
+    RangeField::Value(Range { least, greatest })
+}
+
+// Whether x + y lies outside 0..255.
+fn outside(x: Apart, y: Apart) -> bool
+    requires { ⌜ (x .by < 2147483648) × (y .by < 2147483648) ⌝ }
+    ensures { λ r. ⌜ r ≡ not (isU8 (wholeOf x +ℤ wholeOf y)) ⌝ }
+{
+    if x.down {
+        if y.down {
+            return true;
+        }
+        if y.by <= x.by {
+            return true;
+        }
+        return 256 < y.by - x.by;
+    }
+    if y.down {
+        if x.by <= y.by {
+            return true;
+        }
+        return 256 < x.by - y.by;
+    }
+    255 < x.by + y.by
+}
+
+// Whether a field's number leaves 0..255. A field that does not parse does not.
+fn leaves(text: &[u8], steps: GainSteps) -> bool
+    ensures { λ r. ⌜ r ≡ R.leaves (steps .0) (now (text .entry)) ⌝ }
+{
+    let I32Field::Value(n) = number::parse_i32(text) else {
+        return false;
+    };
+    outside(integers::take_apart(n), integers::take_apart(steps.0))
+}
+
+// Whether a number of a range leaves 0..255.
+fn wraps_out(text: &[u8], steps: GainSteps) -> bool
+    ensures { λ r. ⌜ r ≡ R.wrapsOut (steps .0) (now (text .entry)) ⌝ }
+{
+    let e = lists::find_byte(text, 0, b',');
+    if e == text.len() {
+        return false;
+    }
+    if leaves(&text[0..e], steps) {
+        return true;
+    }
+    let f = e + 1;
+    leaves(&text[f..], steps)
 }
