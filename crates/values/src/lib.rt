@@ -2,12 +2,13 @@
 use frame::GainMode;
 use frame::GainSteps;
 use integers::Apart;
+use keys::Which;
 use number::I32Field;
 use number::Text;
 use number::U8Field;
 ghost use mathlib.Core.Path.{_≡_};
 ghost use mathlib.Core.Bool.{not};
-ghost use mathlib.Core.Option.{Option·getD};
+ghost use mathlib.Core.Option.{none, Option·getD};
 ghost use Prim.Native.Nat.{_<_, min};
 ghost use lib.IntN.{_+ℤ_, _-ℤ_};
 ghost use Rattle.number.specs.Reading.{i32, isU8};
@@ -15,6 +16,7 @@ ghost use Rattle.number.specs.Writing.{textOf};
 ghost use Rattle.integers.specs.Apart.{wholeOf};
 ghost use Rattle.values.specs.Undo as U;
 ghost use Rattle.values.specs.Range as R;
+ghost use Rattle.values.specs.Stored as S;
 
 // The steps that undo what was applied.
 pub struct UndoValues {
@@ -228,4 +230,60 @@ fn wraps_out(text: &[u8], steps: GainSteps) -> bool
     }
     let f = e + 1;
     leaves(&text[f..], steps)
+}
+
+// A value after a shift: its new text, or that it stays as found.
+pub struct Shifted {
+    pub moved: bool,
+    pub text: Text,
+}
+
+fn as_found() -> Shifted
+    ensures { λ r. ⌜ r ≡ S.shiftedIs none ⌝ }
+{
+    Shifted {
+        moved: false,
+        text: Text {
+            bytes: [0u8; 32],
+            len: 0,
+        },
+    }
+}
+
+// A range, each number shifted as under N.
+fn shift_range(text: &[u8], steps: GainSteps) -> Shifted
+    ensures { λ r. ⌜ r ≡ S.shiftedIs (R.shiftRange (steps .0) (now (text .entry))) ⌝ }
+{
+    let RangeField::Value(range) = parse_range(text) else {
+        return as_found();
+    };
+    let least = frame::adjust_gain_value(range.least, steps, GainMode::Saturating);
+    let greatest = frame::adjust_gain_value(range.greatest, steps, GainMode::Saturating);
+    Shifted {
+        moved: true,
+        text: format_minmax(least, greatest),
+    }
+}
+
+// Whether the key at a place of the table is that of a range.
+fn is_range(i: usize) -> bool
+    ensures { λ r. ⌜ r ≡ S.isRange i ⌝ }
+{
+    if i == 1 {
+        return true;
+    }
+    i == 2
+}
+
+// Whether an item is a range of which a number leaves 0..255.
+pub fn range_wraps_out(key: &[u8], value: &[u8], steps: GainSteps) -> bool
+    ensures { λ r. ⌜ r ≡ S.rangeWrapsOut (now (key .entry)) (now (value .entry)) (steps .0) ⌝ }
+{
+    let Which::Key(i) = keys::which_key(key) else {
+        return false;
+    };
+    if !is_range(i) {
+        return false;
+    }
+    wraps_out(value, steps)
 }
