@@ -1,9 +1,10 @@
 -- Laws of digits and signs: a byte by comparisons, and one law for each turn of a loop.
-use Prim.Native.Nat.{ℕ, zero, suc, _+_, _-_, _*_, _≤_, _<_}
+use Prim.Native.Nat.{ℕ, zero, suc, _+_, _-_, _*_, _^_, _≤_, _<_}
 use native.Mathlib.Omega.{arith}
 use native.Mathlib.Numerals.{add-one}
+use native.Mathlib.Nat.{pow-suc, pow-le-pow-right, mul-le-mul-right, mul-comm, mul-assoc}
 use mathlib.Core.Path.{_≡_, refl, sym, ap, _∙_}
-use mathlib.Core.Bool.{Bool, true, false, _||_, cond}
+use mathlib.Core.Bool.{Bool, true, false, _||_, cond, and-eq-true-iff}
 use mathlib.Core.Option.{Option, none, some}
 use mathlib.Core.List.{List, [], _∷_, _++_}
 use lib.ListN.{length, take, drop, getD, drop-of-length-le}
@@ -100,3 +101,41 @@ digits-over limit n s h = go (digitsFrom n s) refl
 
 pub digits-within : (limit n : ℕ) → n ≤ limit → provided (λ k. leb k limit) (some n) ≡ some n
 digits-within limit n h = rw (le-leb n limit h)
+
+-- ---- k digits stay below 10 to the power of k
+
+digit-below : (x : ℕ) → isDigit x ≡ true → x - 48 ≤ 9
+unfolding isDigit
+digit-below x e = omega (arith, leb-true x 57 (and-eq-true-iff (leb 48 x) (leb x 57) .0 e .1))
+
+digits-below : (s : List ℕ) (n m : ℕ) → digitsFrom n s ≡ some m → m < (n + 1) * 10 ^ length s
+unfolding digitsFrom
+digits-below [] n m e = let q : n ≡ m = cc in omega arith
+digits-below (x ∷ s) n m e = go (isDigit x) refl e (digits-below s (10 * n + (x - 48)) m)
+  where
+    go : (t : Bool) → isDigit x ≡ t → cond t (digitsFrom (10 * n + (x - 48)) s) none ≡ some m
+        → (digitsFrom (10 * n + (x - 48)) s ≡ some m → m < (10 * n + (x - 48) + 1) * 10 ^ length s)
+        → m < (n + 1) * 10 ^ suc (length s)
+    go true u e f =
+        let d : x - 48 ≤ 9 = digit-below x u in
+        let h : m < (10 * n + (x - 48) + 1) * 10 ^ length s = f e in
+        let g : (10 * n + (x - 48) + 1) * 10 ^ length s ≤ (10 * (n + 1)) * 10 ^ length s = mul-le-mul-right (10 ^ length s) (omega arith) in
+        let k : (10 * (n + 1)) * 10 ^ length s ≡ (n + 1) * 10 ^ suc (length s) = rw (pow-suc, mul-comm 10 (n + 1), mul-assoc, mul-comm 10 (10 ^ length s)) in
+        omega arith
+    go false u e f = absurd (let z : _≡_ {A = ℕ} 0 1 = cc in omega arith)
+
+pub natural-below : (s : List ℕ) (m k : ℕ) → length s ≤ k → natural s ≡ some m → m < 10 ^ k
+unfolding natural
+natural-below [] m k h e = absurd (let z : _≡_ {A = ℕ} 0 1 = cc in omega arith)
+natural-below (x ∷ s) m k h e =
+    let b : m < (0 + 1) * 10 ^ length (x ∷ s) = digits-below (x ∷ s) 0 m e in
+    let p : 10 ^ length (x ∷ s) ≤ 10 ^ k = pow-le-pow-right {n = 10} (omega arith) h in
+    omega arith
+
+-- so a limit that k digits stay within takes nothing away
+pub natural-fits : (s : List ℕ) (k limit : ℕ) → length s ≤ k → 10 ^ k ≤ limit + 1 → provided (λ n. leb n limit) (natural s) ≡ natural s
+natural-fits s k limit h l = go (natural s) refl
+  where
+    go : (o : Option ℕ) → natural s ≡ o → provided (λ n. leb n limit) o ≡ o
+    go none e = refl
+    go (some m) e = let b : m < 10 ^ k = natural-below s m k h e in rw (le-leb m limit (omega arith))

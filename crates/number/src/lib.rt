@@ -1,7 +1,7 @@
 // Whole numbers in texts, read and written. Nothing here knows a tag.
 use integers::Apart;
 ghost use mathlib.Core.Path.{_≡_};
-ghost use mathlib.Core.Option.{Option};
+ghost use mathlib.Core.Option.{none};
 ghost use Prim.Native.Nat.{_+_, _-_, _≤_, _<_, _^_};
 ghost use lib.ListN.{length, take, drop};
 ghost use lib.Dec.{leb};
@@ -20,6 +20,12 @@ pub struct Text {
     pub len: usize,
 }
 
+// A text after a change: its new bytes, or that it stays as found.
+pub struct Shifted {
+    pub moved: bool,
+    pub text: Text,
+}
+
 // Digits that were read.
 pub enum Natural {
     Value(u32),
@@ -36,6 +42,19 @@ pub enum I32Field {
 pub enum U8Field {
     Value(u8),
     Nothing,
+}
+
+// A text that stays as found.
+pub fn as_found() -> Shifted
+    ensures { λ r. ⌜ r ≡ W.shiftedIs none ⌝ }
+{
+    Shifted {
+        moved: false,
+        text: Text {
+            bytes: [0u8; 32],
+            len: 0,
+        },
+    }
 }
 
 pub fn is_space(x: u8) -> bool

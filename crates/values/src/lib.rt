@@ -4,15 +4,16 @@ use frame::GainSteps;
 use integers::Apart;
 use keys::Which;
 use number::I32Field;
+use number::Shifted;
 use number::Text;
 use number::U8Field;
 ghost use mathlib.Core.Path.{_≡_};
 ghost use mathlib.Core.Bool.{not};
-ghost use mathlib.Core.Option.{none, Option·getD};
+ghost use mathlib.Core.Option.{Option·getD};
 ghost use Prim.Native.Nat.{_<_, min};
 ghost use lib.IntN.{_+ℤ_, _-ℤ_};
 ghost use Rattle.number.specs.Reading.{i32, isU8};
-ghost use Rattle.number.specs.Writing.{textOf};
+ghost use Rattle.number.specs.Writing.{textOf, shiftedIs};
 ghost use Rattle.integers.specs.Apart.{wholeOf};
 ghost use Rattle.values.specs.Undo as U;
 ghost use Rattle.values.specs.Range as R;
@@ -232,30 +233,12 @@ fn wraps_out(text: &[u8], steps: GainSteps) -> bool
     leaves(&text[f..], steps)
 }
 
-// A value after a shift: its new text, or that it stays as found.
-pub struct Shifted {
-    pub moved: bool,
-    pub text: Text,
-}
-
-fn as_found() -> Shifted
-    ensures { λ r. ⌜ r ≡ S.shiftedIs none ⌝ }
-{
-    Shifted {
-        moved: false,
-        text: Text {
-            bytes: [0u8; 32],
-            len: 0,
-        },
-    }
-}
-
 // A range, each number shifted as under N.
 fn shift_range(text: &[u8], steps: GainSteps) -> Shifted
-    ensures { λ r. ⌜ r ≡ S.shiftedIs (R.shiftRange (steps .0) (now (text .entry))) ⌝ }
+    ensures { λ r. ⌜ r ≡ shiftedIs (R.shiftRange (steps .0) (now (text .entry))) ⌝ }
 {
     let RangeField::Value(range) = parse_range(text) else {
-        return as_found();
+        return number::as_found();
     };
     let least = frame::adjust_gain_value(range.least, steps, GainMode::Saturating);
     let greatest = frame::adjust_gain_value(range.greatest, steps, GainMode::Saturating);
