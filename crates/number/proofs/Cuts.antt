@@ -9,7 +9,7 @@ use mathlib.Core.Option.{Option, none, some}
 use mathlib.Core.List.{List, [], _∷_, _++_}
 use lib.ListN.{length, take, drop, length-drop}
 use lib.Dec.{ltb, eqb, leb·suc-suc}
-use lib.Seq.{drop-drop}
+use lib.Seq.{drop-drop, length-take-le}
 use borrow.Author.Tests.{lt-ltb, le-ltb}
 use Rattle.lists.proofs.Places.{place-within}
 use Rattle.lists.proofs.Wrote.{rest}
@@ -88,6 +88,11 @@ module _ (c : ℕ) (s : List ℕ) (e : ℕ) (q : e ≡ 0 + placeOf c s) where
 
   pub within-text : e ≤ length s
   within-text = omega (arith, place, place-within c s)
+
+  pub length-front : length (before c s) ≡ e
+  length-front =
+      let z : e - 0 ≡ e = omega arith in
+      ap length (sym front-is) ∙ ap (λ (n : ℕ). length (take n s)) z ∙ length-take-le e s within-text
 
   pub no-back : e ≡ length s → behind c s ≡ none
   no-back h = cut-none c s e place (omega arith)

@@ -4,19 +4,11 @@ use native.Mathlib.Omega.{arith}
 use mathlib.Core.Path.{_≡_, refl, sym, ap, _∙_}
 use mathlib.Core.Bool.{Bool, true, false, not}
 use lib.Dec.{ltb, leb·suc-suc}
-use lib.IntN.{ℤ, pos, negsuc, negℤ, _+ℤ_, _-ℤ_}
+use lib.IntN.{ℤ, pos, negsuc, _+ℤ_, _-ℤ_}
 use borrow.Author.Tests.{lt-ltb, le-ltb, ltb-true, ltb-false}
-use Rattle.integers.proofs.Parts.{up, down, sum-parts, neg-up, neg-down, parts-eq}
 use Rattle.number.specs.Reading.{isU8}
+use Rattle.number.proofs.Signs.{total, differ}
 use Rattle.values.specs.Undo.{sat32}
-
--- z is a + b, by their parts
-pub total : (a b z : ℤ) → up z + (down a + down b) ≡ down z + (up a + up b) → a +ℤ b ≡ z
-total a b z h = parts-eq (a +ℤ b) z (omega (arith, sum-parts a b))
-
--- z is a - b, by their parts
-pub differ : (a b z : ℤ) → up z + (down a + up b) ≡ down z + (up a + down b) → a -ℤ b ≡ z
-differ a b z h = parts-eq (a -ℤ b) z (omega (arith, sum-parts a (negℤ b), neg-up b, neg-down b))
 
 -- ---- differences held within 32 bits
 
@@ -62,6 +54,3 @@ module _ (x y : ℕ) where
   mixed-high h =
       let k : y - x ≡ suc (y - x - 1) = omega arith in
       rw (total (negsuc x) (pos y) (pos (y - x - 1)) (omega arith)) (ap (ltb 256) k ∙ leb·suc-suc 256 (y - x - 1) ∙ above (y - x - 1))
-
-pub other-way : (a b : ℤ) → a +ℤ b ≡ b +ℤ a
-other-way a b = total a b (b +ℤ a) (omega (arith, sum-parts b a))

@@ -3,7 +3,8 @@ use mathlib.Core.Path.{_≡_, ap, _∙_}
 use mathlib.Core.Bool.{not}
 use lib.IntN.{ℤ, pos, negsuc}
 use Rattle.number.specs.Reading.{isU8}
-use Rattle.values.proofs.Sums.{both-up, mixed-low, mixed-high, other-way}
+use Rattle.number.proofs.Signs.{other-way}
+use Rattle.values.proofs.Sums.{both-up, mixed-low, mixed-high}
 use Rattle.values.proofs.outside.Statement.{statement}
 use Rattle.values.proofs.outside.Tie as tie
 
