@@ -8,7 +8,8 @@ use number::Shifted;
 use number::Text;
 use number::U8Field;
 ghost use mathlib.Core.Path.{_≡_};
-ghost use mathlib.Core.Bool.{not};
+ghost use mathlib.Core.Bool.{not, _||_};
+ghost use lib.Dec.{eqb};
 ghost use mathlib.Core.Option.{Option·getD};
 ghost use Prim.Native.Nat.{_<_, min};
 ghost use lib.IntN.{_+ℤ_, _-ℤ_};
@@ -248,14 +249,23 @@ fn shift_range(text: &[u8], steps: GainSteps) -> Shifted
     }
 }
 
-// Whether the key at a place of the table is that of a range.
-fn is_range(i: usize) -> bool
-    ensures { λ r. ⌜ r ≡ S.isRange i ⌝ }
+// The places of four keys in the table of eight.
+const MINMAX: usize = 1;
+
+const ALBUM_MINMAX: usize = 2;
+
+const TRACK_GAIN: usize = 3;
+
+const ALBUM_GAIN: usize = 5;
+
+// Whether a place is one of two.
+fn is_either(i: usize, a: usize, b: usize) -> bool
+    ensures { λ r. ⌜ r ≡ (eqb i a || eqb i b) ⌝ }
 {
-    if i == 1 {
+    if i == a {
         return true;
     }
-    i == 2
+    i == b
 }
 
 // Whether an item is a range of which a number leaves 0..255.
@@ -265,8 +275,24 @@ pub fn range_wraps_out(key: &[u8], value: &[u8], steps: GainSteps) -> bool
     let Which::Key(i) = keys::which_key(key) else {
         return false;
     };
-    if !is_range(i) {
+    if !is_either(i, MINMAX, ALBUM_MINMAX) {
         return false;
     }
     wraps_out(value, steps)
+}
+
+// A stored value after so many steps. Peaks and values of other keys stay as found.
+pub fn shift_stored_value(key: &[u8], value: &[u8], steps: GainSteps) -> Shifted
+    ensures { λ r. ⌜ r ≡ shiftedIs (S.shiftStored (now (key .entry)) (now (value .entry)) (steps .0)) ⌝ }
+{
+    let Which::Key(i) = keys::which_key(key) else {
+        return number::as_found();
+    };
+    if is_either(i, MINMAX, ALBUM_MINMAX) {
+        return shift_range(value, steps);
+    }
+    if is_either(i, TRACK_GAIN, ALBUM_GAIN) {
+        return decibels::shift_gain(value, steps);
+    }
+    number::as_found()
 }

@@ -23,8 +23,8 @@ returns-2 c =
     let g = w .before .before .before .args in
     rw (
       which-some (whichKey (g .key .now)) (i .i .given .0 .0) (sym (i .i .given .1) ∙ w .which-key .ensures),
-      ← r .is-range .ensures,
-      not-true (r .is-range .result) (c .if1 .taken),
+      ← r .is-either .ensures,
+      not-true (r .is-either .result) (c .if1 .taken),
     )
 
 returns-3 : tie.Need-returns-3
@@ -37,8 +37,8 @@ returns-3 c =
     let g = w .before .before .before .args in
     rw (
       which-some (whichKey (g .key .now)) (i .i .given .0 .0) (sym (i .i .given .1) ∙ w .which-key .ensures),
-      ← r .is-range .ensures,
-      not-false (r .is-range .result) (t .if1 .left),
+      ← r .is-either .ensures,
+      not-false (r .is-either .result) (t .if1 .left),
     )
     (c .wraps-out .ensures)
 
