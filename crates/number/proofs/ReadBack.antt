@@ -12,6 +12,7 @@ use lib.Dec.{ltb}
 use lib.IntN.{ℤ, pos, negsuc, natAbs}
 use lib.Signed.{mag, natAbs-le}
 use borrow.Author.Tests.{eq-eqb, le-leb, lt-leb, lt-ltb, ltb-false, ltb-true, ne-eqb}
+use Rattle.lists.specs.Bytes.{all, among}
 use Rattle.number.specs.Trim.{isSpace, trimLeft, keep, trimRight, trim}
 use Rattle.number.specs.Fields.{before, behind}
 use Rattle.number.specs.Reading.{isDigit, digitsFrom, natural, isMinus, unsigned, whole, i32, u8}
@@ -172,3 +173,17 @@ digits-at-most j k (suc m) n h b = go (ltb n (10 ^ k)) refl (λ i. digits-at-mos
     go : (t : Bool) → ltb n (10 ^ k) ≡ t → (suc k ≤ j → length (decimal (suc k) m n) ≤ j) → length (cond t (places k n) (decimal (suc k) m n)) ≤ j
     go true e f = omega (arith, length-places k n)
     go false e f = f (wider j k n (ltb-false n (10 ^ k) e) b)
+
+-- ---- bytes of hex 20..7E
+
+abbrev pub Plain : List ℕ → Type 0
+Plain s = all (among 32 126) s ≡ true
+
+pub plain-before : (a b : List ℕ) → Marks a → Plain b → Plain (a ++ b)
+unfolding all
+plain-before [] b m q = q
+plain-before (x ∷ a) b (h, m) q = rw (le-leb 32 x (omega arith), le-leb x 126 (omega arith)) (plain-before a b m q)
+
+pub plain-marks : (s : List ℕ) → Marks s → Plain s
+unfolding all
+plain-marks s m = rw append-nil at (plain-before s [] m refl)
