@@ -18,7 +18,7 @@ use Rattle.ape.specs.Answers.{itemsPlan, readPlan}
 use Rattle.ape.specs.declared.Footer.{Footer}
 use Rattle.ape.specs.declared.Footer.the-variants.{At, Nowhere}
 
-stands-long : (n : ℕ) (p s : List ℕ) → standsAt n p s ≡ true → n ≤ length s
+pub stands-long : (n : ℕ) (p s : List ℕ) → standsAt n p s ≡ true → n ≤ length s
 unfolding standsAt
 stands-long n p s e = go (leb n (length s)) refl
   where

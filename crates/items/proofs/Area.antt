@@ -47,7 +47,7 @@ head-flat : (n : ℕ) (b : List ℕ) → n < 4294967296 → plainHead (u32le n +
 unfolding head plainHead
 head-flat n b h = ap (λ (m : ℕ). provided (λ h. eqb (h .flags) 0) (headAt m 0 b)) (read-here n (u32le 0 ++ b) h)
 
-head-item : (t : Item) (s : List ℕ) → placeOf 0 (t .key) ≡ length (t .key) → length (t .value) < 4294967296
+pub head-item : (t : Item) (s : List ℕ) → placeOf 0 (t .key) ≡ length (t .key) → length (t .value) < 4294967296
     → plainHead (itemBytes t ++ s) ≡ some (record { flags = 0; item = t; rest = s })
 head-item t s z h = rw (flat t s, head-flat (length (t .value)) _ h, head-at (t .key) (t .value) s 0 z)
 
