@@ -1,1 +1,2 @@
 pub mod FrameFace
+pub mod Utf8Face

@@ -1,17 +1,17 @@
 -- Laws of `stepOf`, `lossy` and `valid`.
-use Prim.Native.Nat.{ℕ, zero, suc, _+_, _-_, _*_, _≤_, _<_}
+use Prim.Native.Nat.{ℕ, zero, suc, _+_, _-_, _≤_, _<_}
 use native.Mathlib.Omega.{arith}
 use mathlib.Core.Path.{_≡_, refl, sym, ap, _∙_}
 use mathlib.Core.Bool.{Bool, true, false, _&&_, cond, and-eq-true-iff}
 use mathlib.Core.List.{List, [], _∷_, _++_, append-assoc, append-nil}
-use lib.Dec.{leb, ltb, eqb}
-use lib.ListN.{length, take, drop, length-append, length-take, take-append-drop}
-use lib.Seq.{drop-nil, drop-at, length-take-le, take-append-le}
+use lib.Dec.{ltb, eqb}
+use lib.ListN.{length, take, drop, take-append-drop}
+use lib.Seq.{drop-at, length-take-le, take-append-le}
 use borrow.Author.Tests.{eqb-true, ltb-true, le-leb, eq-eqb}
 use Rattle.utf8.specs.declared.Part.{Part}
 use Rattle.utf8.specs.declared.Part.the-variants.{Good, Bad, End}
 use Rattle.lists.specs.Bytes.{among, all, Small}
-use Rattle.utf8.specs.Utf8.{numberOf, classAt, run, judged, follow, stepOf, size, after, mark, textOf, whole, lossyFrom, lossy, validFrom, valid, plain}
+use Rattle.utf8.specs.Utf8.{numberOf, classAt, run, judged, stepOf, size, after, mark, textOf, whole, lossyFrom, lossy, validFrom, valid, plain}
 use Rattle.utf8.proofs.Lists.{small-nil, small-append, small-take, small-all}
 
 -- ---- one step
@@ -52,11 +52,13 @@ whole-judged m n h = go (eqb n m) refl h
     go true e h = eqb-true n m e
     go false e h = let z : _≡_ {A = ℕ} 0 1 = cc in omega arith
 
+-- the first part lies within the text
 pub step-within : (s : List ℕ) → size (stepOf s) ≤ length s
 unfolding stepOf
 step-within [] = omega arith
 step-within (b ∷ s) = let c = classAt (numberOf b) in rw size-judged (omega (arith, run-within (c .more) (c .low) (c .high) s))
 
+-- and is not empty where the text is not
 pub step-moves : (b : ℕ) (s : List ℕ) → 0 < size (stepOf (b ∷ s))
 unfolding stepOf
 step-moves b s = rw size-judged (omega arith)
@@ -106,6 +108,7 @@ drop-moves : (n b : ℕ) (s : List ℕ) → 0 < n → drop (after n) s ≡ drop 
 drop-moves zero b s h = absurd (omega arith)
 drop-moves (suc n) b s h = refl
 
+-- the first part, and then the rest
 pub lossy-turn : (s : List ℕ) → lossy s ≡ textOf (stepOf s) s ++ lossy (drop (size (stepOf s)) s)
 unfolding lossy lossyFrom
 lossy-turn [] = unfold stepOf in refl
@@ -151,10 +154,12 @@ pub lossy-append : (a t : List ℕ) → valid a ≡ true → lossy (a ++ t) ≡ 
 unfolding lossy valid
 lossy-append a t v = lossy-front a 0 t v (omega arith)
 
+-- so only what stands behind it decides
 pub valid-append : (a t : List ℕ) → valid a ≡ true → valid (a ++ t) ≡ valid t
 unfolding valid
 valid-append a t v = valid-front a 0 t v (omega arith)
 
+-- valid text converts to itself
 pub lossy-valid : (s : List ℕ) → valid s ≡ true → lossy s ≡ s
 lossy-valid s v =
     let nothing : lossy [] ≡ [] = unfold lossy lossyFrom in refl in
@@ -173,6 +178,7 @@ module _ (s : List ℕ) (b : ℕ) where
   valid-text (Bad n) e t v = unfold stepOf run classAt numberOf in v
   valid-text End e t v = v
 
+-- a character is valid
 pub valid-char : (s : List ℕ) (n : ℕ) → stepOf s ≡ Good n → valid (take n s) ≡ true
 unfolding valid
 valid-char [] n e = let q : stepOf [] ≡ End = unfold stepOf in refl in let z : _≡_ {A = ℕ} 0 1 = cc in absurd (omega arith)
@@ -184,14 +190,16 @@ valid-lossyFrom [] k = unfold validFrom in refl
 valid-lossyFrom (b ∷ s) (suc k) = valid-lossyFrom s k
 valid-lossyFrom (b ∷ s) zero = valid-text s b (stepOf (b ∷ s)) refl _ (valid-lossyFrom s (after (size (stepOf (b ∷ s)))))
 
+-- the result is valid
 pub valid-lossy : (s : List ℕ) → valid (lossy s) ≡ true
 unfolding valid lossy
 valid-lossy s = valid-lossyFrom s 0
 
--- only what is valid stands as it is
+-- and only valid text converts to itself
 pub valid-same : (s : List ℕ) → lossy s ≡ s → valid s ≡ true
 valid-same s e = ap valid (sym e) ∙ valid-lossy s
 
+-- converting twice is converting once
 pub lossy-lossy : (s : List ℕ) → lossy (lossy s) ≡ lossy s
 lossy-lossy s = lossy-valid (lossy s) (valid-lossy s)
 

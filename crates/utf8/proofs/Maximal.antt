@@ -8,7 +8,7 @@ use mathlib.Core.List.{List, [], _∷_, _++_, append-assoc}
 use lib.Dec.{eqb}
 use lib.ListN.{length, take, drop, replicate, length-append, length-replicate}
 use lib.Seq.{length-take-le, take-add}
-use borrow.Author.Tests.{eqb-true, eqb-false, eq-eqb, ne-eqb}
+use borrow.Author.Tests.{eqb-false, eq-eqb}
 use Rattle.utf8.specs.declared.Part.the-variants.{Good, Bad, End}
 use Rattle.lists.specs.Bytes.{among}
 use Rattle.utf8.specs.Utf8.{numberOf, classAt, run, judged, stepOf, size, Initial, Maximal}
@@ -104,6 +104,7 @@ module _ (b : ℕ) (s : List ℕ) (k : ℕ) (h : stepOf (b ∷ s) ≡ Bad (suc k
       let z : _≡_ {A = ℕ} 0 1 = cc in
       omega arith
 
+-- each ill-formed part is a maximal subpart
 pub bad-maximal : (s : List ℕ) (n : ℕ) → stepOf s ≡ Bad n → Maximal s n
 bad-maximal [] n e = let q : stepOf [] ≡ End = unfold stepOf in refl in let z : _≡_ {A = ℕ} 0 1 = cc in absurd (omega arith)
 bad-maximal (b ∷ s) zero e = let h : 0 < size (Bad zero) = rw e at (step-moves b s) in absurd (omega arith)

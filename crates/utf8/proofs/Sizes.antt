@@ -1,9 +1,9 @@
 -- Sizes: the converted text is at least as long as the text, and at most three times as long.
 use Prim.Native.Nat.{ℕ, zero, suc, _+_, _-_, _*_, _≤_, _<_}
 use native.Mathlib.Omega.{arith}
-use mathlib.Core.Path.{_≡_, refl, sym, ap, _∙_}
-use mathlib.Core.List.{List, [], _∷_, _++_}
-use lib.ListN.{length, take, length-append, length-take}
+use mathlib.Core.Path.{_≡_, refl}
+use mathlib.Core.List.{List, [], _∷_}
+use lib.ListN.{length, length-append, length-take}
 use borrow.Author.Tests.{eqb-false}
 use Rattle.utf8.specs.declared.Part.{Part}
 use Rattle.utf8.specs.declared.Part.the-variants.{Good, Bad, End}
@@ -47,6 +47,7 @@ length-lossyFrom (b ∷ s) zero =
     let x = stepOf (b ∷ s) in
     simp length-append (omega (arith, text-length s b x, length-lossyFrom s (after (size x))))
 
+-- at most three times as long
 pub length-lossy : (s : List ℕ) → length (lossy s) ≤ 3 * length s
 unfolding lossy
 length-lossy s = omega (arith, length-lossyFrom s 0)
@@ -59,6 +60,7 @@ least-lossyFrom (b ∷ s) zero =
     let x = stepOf (b ∷ s) in
     simp length-append (omega (arith, text-least s b x refl, least-lossyFrom s (after (size x))))
 
+-- at least as long
 pub least-lossy : (s : List ℕ) → length s ≤ length (lossy s)
 unfolding lossy
 least-lossy s = omega (arith, least-lossyFrom s 0)

@@ -18,6 +18,7 @@ pub record Class : Type 0 where
   pub low : ℕ
   pub high : ℕ
 
+-- a class, written in one line
 abbrev pub class : ℕ → ℕ → ℕ → Class
 class more low high = record { more = more; low = low; high = high }
 
@@ -27,6 +28,7 @@ pub record Row : Type 0 where
   pub to : ℕ
   pub says : Class
 
+-- a row, written in one line
 abbrev pub row : ℕ → ℕ → Class → Row
 row from to says = record { from = from; to = to; says = says }
 

@@ -151,6 +151,25 @@ fn plain_end(s: &[u8], from: usize) -> usize
     at
 }
 
+// Where the characters of three bytes from here end, of the row that has most of them.
+fn threes_end(table: &[u8; 256], s: &[u8], from: usize) -> usize
+    requires { ⌜ (Classes (now table)) × (from ≤ length (now s)) ⌝ }
+    ensures { λ r. ⌜ Stretch (now (s .entry)) from r ⌝ }
+{
+    let mut at = from;
+    while at < s.len() {
+        if number_of(table, s[at]) != 3 {
+            return at;
+        }
+        let x = three(s, at + 1, 0x80, 0xBF);
+        let Part::Good(n) = x else {
+            return at;
+        };
+        at += n;
+    }
+    at
+}
+
 // Where the characters from here end, and how many bytes the ill-formed part there has: none at the end of the text.
 fn run_from(table: &[u8; 256], s: &[u8], from: usize) -> Run
     requires { ⌜ (Classes (now table)) × (from ≤ length (now s)) ⌝ }
@@ -165,7 +184,7 @@ fn run_from(table: &[u8; 256], s: &[u8], from: usize) -> Run
         let x = step_by(table, s, at);
         match x {
             Part::Good(n) => {
-                at += n;
+                at = threes_end(table, s, at + n);
             }
             Part::Bad(n) => {
                 return Run { end: at, bad: n };

@@ -3,6 +3,7 @@
 use crate::tools::{Bench, Compare, Record};
 
 mod frame;
+mod utf8;
 
 /// What a module offers: recorded answers, a comparison, and what is timed.
 pub struct Case {
@@ -12,4 +13,4 @@ pub struct Case {
     pub bench: fn(&mut Bench),
 }
 
-pub const ALL: &[Case] = &[frame::CASE];
+pub const ALL: &[Case] = &[frame::CASE, utf8::CASE];

@@ -1,7 +1,7 @@
 -- `utf8::four` meets its contract: each answer by the bytes that stand there.
 use borrow.Author.Needs.{needs}
 use borrow.Author.Tests.{not-true, not-false}
-use mathlib.Core.Path.{_≡_, refl, sym, _∙_}
+use mathlib.Core.Path.{refl, sym, _∙_}
 use Rattle.utf8.proofs.Steps.{bad-first, bad-second, bad-third, good-third}
 use Rattle.utf8.proofs.four.Statement.{statement}
 use Rattle.utf8.proofs.four.Tie as tie

@@ -1,9 +1,7 @@
 -- `utf8::lossy_into` meets its contract: it writes only where there is room, by the laws on sizes, or by asking.
 use borrow.Author.Needs.{needs}
-use Prim.Native.Nat.{ℕ, _≤_, _<_, _/_}
-use mathlib.Core.Path.{_≡_, sym, _∙_}
-use mathlib.Core.Bool.{true}
-use mathlib.Core.List.{List}
+use Prim.Native.Nat.{_≤_, _<_}
+use mathlib.Core.Path.{sym, _∙_}
 use native.Mathlib.Omega.{arith}
 use lib.ListN.{length}
 use Rattle.utf8.specs.Utf8.{lossy}
@@ -13,26 +11,24 @@ use Rattle.utf8.proofs.Written.{converted, refused, had-room, had-none}
 use Rattle.utf8.proofs.lossy_into.Statement.{statement}
 use Rattle.utf8.proofs.lossy_into.Tie as tie
 
-ample : (s out : List ℕ) → length s ≤ length out / 3 → length (lossy s) ≤ length out
-ample s out h = omega (arith, length-lossy s)
-
-short : (s out : List ℕ) → length out < length s → length out < length (lossy s)
-short s out h = omega (arith, least-lossy s)
-
 returns : tie.Need-returns
-returns c = let g = c .before .before .before .args in refused (g .out .now) (lossy (g .s .now)) (short (g .s .now) (g .out .now) (c .if1 .taken))
+returns c =
+    let g = c .before .before .before .args in
+    let h : length (g .out .now) < length (lossy (g .s .now)) = omega (arith, least-lossy (g .s .now)) in
+    refused (g .out .now) (lossy (g .s .now)) h
+
+-- three times the text is enough
+ample : (p : tie.Then2) → length (lossy (p .before .before .before .before .before .args .s .now)) ≤ length (p .before .before .before .before .before .args .out .now)
+ample p = omega (arith, length-lossy (p .before .before .before .before .before .args .s .now))
 
 lossy-put-requires : tie.Need-lossy-put-requires
-lossy-put-requires c κs =
-    let t = c .before .before .before in
-    let g = t .before .before .before .before .args in
-    (t .class-table .ensures, omega (arith, ample (g .s .now) (g .out .now) (c .before .before .if2 .taken)))
+lossy-put-requires c κs = (c .before .before .before .class-table .ensures, omega (arith, ample (c .before .before)))
 
 returns-2 : tie.Need-returns-2
 returns-2 c =
     let w = c .before .before in
     let g = w .before .before .before .before .before .before .before .before .args in
-    converted (g .out .now) (lossy (g .s .now)) (ample (g .s .now) (g .out .now) (w .before .before .before .if2 .taken)) (w .lossy-put .ensures)
+    converted (g .out .now) (lossy (g .s .now)) (ample (w .before .before .before)) (w .lossy-put .ensures)
 
 returns-3 : tie.Need-returns-3
 returns-3 c =

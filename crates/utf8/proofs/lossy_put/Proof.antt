@@ -1,7 +1,7 @@
 -- `utf8::lossy_put` meets its contract. The invariant is the `State` of Written.antt.
 use borrow.Author.Needs.{needs}
 use Prim.Native.Nat.{_-_}
-use mathlib.Core.Path.{_≡_, _∙_}
+use mathlib.Core.Path.{_∙_}
 use native.Mathlib.Omega.{arith}
 use lib.ListN.{length}
 use Rattle.utf8.proofs.Stretch.{part-size}

@@ -1,8 +1,7 @@
 -- `utf8::lossy_within` meets its contract. The invariant: the whole size is what was counted and the size of what is left.
-use borrow.Author.Needs.{needs}
 use borrow.Author.Tests.{lt-ltb, le-ltb}
 use Prim.Native.Nat.{_≤_, _<_, _+_, _-_}
-use mathlib.Core.Path.{_≡_, refl, sym, ap, _∙_}
+use mathlib.Core.Path.{_≡_, ap}
 use native.Mathlib.Omega.{arith}
 use lib.ListN.{length, drop}
 use Rattle.utf8.specs.declared.Converted.the-variants.{Done}

@@ -1,12 +1,12 @@
 -- `utf8::run_from` meets its contract. The invariant: what was passed is a run of characters.
 use borrow.Author.Needs.{needs}
-use Prim.Native.Nat.{ℕ, _+_, _-_, _≤_, _<_}
-use mathlib.Core.Path.{_≡_, sym, _∙_}
+use Prim.Native.Nat.{_+_, _-_}
+use mathlib.Core.Path.{sym, _∙_}
 use native.Mathlib.Omega.{arith}
 use lib.ListN.{length, drop-of-length-le}
 use Rattle.utf8.specs.declared.Part.the-variants.{Good, Bad}
 use Rattle.utf8.specs.Utf8.{stepOf}
-use Rattle.utf8.specs.Runs.{Stretch, Ran}
+use Rattle.utf8.specs.Runs.{Stretch}
 use Rattle.utf8.proofs.Turn.{Turn, good, bad}
 use Rattle.utf8.proofs.Stretch.{none, join, plain, char, stops}
 use Rattle.utf8.proofs.run_from.Statement.{statement}
@@ -28,7 +28,9 @@ loop-again : tie.Need-loop-again Inv-loop μ-loop
 loop-again c = let l = c .before .before .before .before in join (plain (l .loop .at + 1) (l .loop .inv) (omega arith) (omega arith) (omega arith)) (c .plain-end .ensures)
 
 loop-again-2 : tie.Need-loop-again-2 Inv-loop μ-loop
-loop-again-2 c = char (c .before .before .before .before .before .before .before .loop .inv) (sym (c .before .before .before .step-by .ensures) ∙ c .before .x .given .1) (goes c .inside)
+loop-again-2 c =
+    let k = c .before in
+    join (char (k .before .before .before .before .before .before .before .loop .inv) (sym (k .before .before .before .step-by .ensures) ∙ k .before .x .given .1) (goes k .inside)) (c .threes-end .ensures)
 
 returns : tie.Need-returns Inv-loop μ-loop
 returns c =
@@ -62,7 +64,8 @@ run-from-spec =
     (λ c κs. search needs)
     (λ c. search needs)
     (λ c. omega (arith, goes c .inside))
-    (λ c. omega (arith, goes c .inside, goes c .moves))
+    (λ c κs. (c .before .before .before .before .before .before .before .before .before .pre .0, goes c .inside))
+    (λ c. let t = goes (c .before) in omega (arith, t .moves, c .threes-end .ensures .order, c .threes-end .ensures .inside))
     loop-again-2
     (λ c. search needs)
     returns

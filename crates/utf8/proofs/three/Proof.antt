@@ -1,7 +1,7 @@
 -- `utf8::three` meets its contract: each answer by the bytes that stand there.
 use borrow.Author.Needs.{needs}
 use borrow.Author.Tests.{not-true, not-false}
-use mathlib.Core.Path.{_≡_, refl, sym, _∙_}
+use mathlib.Core.Path.{refl, sym, _∙_}
 use Rattle.utf8.proofs.Steps.{bad-first, bad-second, good-second}
 use Rattle.utf8.proofs.three.Statement.{statement}
 use Rattle.utf8.proofs.three.Tie as tie

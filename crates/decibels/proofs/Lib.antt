@@ -1,0 +1,4 @@
+pub mod Amounts
+pub mod Texts
+pub mod NoTie
+pub mod ReadBack

@@ -1,0 +1,4 @@
+pub mod Trim
+pub mod Fields
+pub mod Reading
+pub mod Writing

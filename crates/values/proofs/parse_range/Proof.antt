@@ -1,0 +1,116 @@
+use borrow.Author.Needs.{needs}
+use Prim.Native.Nat.{_+_, _-_}
+use mathlib.Core.Path.{_≡_, sym, ap, _∙_}
+use native.Mathlib.Omega.{arith}
+use lib.ListN.{length, take, drop}
+use Rattle.number.specs.Fields.{before, behind}
+use Rattle.number.specs.Reading.{u8, u8Of}
+use Rattle.number.proofs.Limits.{u8-value-is, u8-nothing-is}
+use Rattle.number.proofs.Cuts.{front-is, within-text, no-back, within-back, back-is}
+use Rattle.values.specs.Range.{parseRange}
+use Rattle.values.proofs.parse_range.Statement.{statement}
+use Rattle.values.proofs.parse_range.Tie as tie
+
+returns : tie.Need-returns
+unfolding parseRange
+returns c =
+    let f = c .before in
+    let s = f .before .before .args .text .now in
+    rw (no-back 44 s (f .find-byte .result) (f .find-byte .ensures) (c .if1 .taken))
+
+part-parse-u8-end : tie.Need-part-parse-u8-end
+part-parse-u8-end c =
+    let f = c .before in
+    omega (arith, within-text 44 (f .before .before .args .text .now) (f .find-byte .result) (f .find-byte .ensures))
+
+returns-2 : tie.Need-returns-2
+unfolding parseRange
+returns-2 c =
+    let p = c .before .before in
+    let i = p .before .before in
+    let f = i .before in
+    let s = f .before .before .args .text .now in
+    let e = f .find-byte .result in
+    let q = f .find-byte .ensures in
+    let a = before 44 s in
+    rw (back-is 44 s e q (i .if1 .left), u8-nothing-is (u8 a) (sym (c .enum-told .given .1) ∙ p .parse-u8 .ensures ∙ ap (λ t. u8Of (u8 t)) (front-is 44 s e q)))
+
+add-f : tie.Need-add-f
+add-f c =
+    let i = c .before .before .before .before .before in
+    let f = i .before in
+    omega (arith, within-back 44 (f .before .before .args .text .now) (f .find-byte .result) (f .find-byte .ensures) (i .if1 .left))
+
+sub-parse-u8-2 : tie.Need-sub-parse-u8-2
+sub-parse-u8-2 c =
+    let i = c .before .before .before .before .before in
+    let f = i .before in
+    omega (arith, within-back 44 (f .before .before .args .text .now) (f .find-byte .result) (f .find-byte .ensures) (i .if1 .left))
+
+part-parse-u8-start-2 : tie.Need-part-parse-u8-start-2
+part-parse-u8-start-2 c =
+    let i = c .before .before .before .before .before in
+    let f = i .before in
+    omega (arith, within-back 44 (f .before .before .args .text .now) (f .find-byte .result) (f .find-byte .ensures) (i .if1 .left))
+
+returns-3 : tie.Need-returns-3
+unfolding parseRange
+returns-3 c =
+    let p2 = c .before .before in
+    let m = p2 .before .before .before in
+    let p = m .before .before in
+    let i = p .before .before in
+    let f = i .before in
+    let s = f .before .before .args .text .now in
+    let e = f .find-byte .result in
+    let q = f .find-byte .ensures in
+    let a = before 44 s in
+    let b = take (length s - (e + 1)) (drop (e + 1) s) in
+    rw (
+      back-is 44 s e q (i .if1 .left),
+      u8-value-is (u8 a) (m .least .given .0 .0) (sym (m .least .given .1) ∙ p .parse-u8 .ensures ∙ ap (λ t. u8Of (u8 t)) (front-is 44 s e q)),
+      u8-nothing-is (u8 b) (sym (c .enum-told2 .given .1) ∙ p2 .parse-u82 .ensures),
+    )
+
+returns-4 : tie.Need-returns-4
+unfolding parseRange
+returns-4 c =
+    let n = c .before in
+    let p2 = n .before .before in
+    let m = p2 .before .before .before in
+    let p = m .before .before in
+    let i = p .before .before in
+    let f = i .before in
+    let s = f .before .before .args .text .now in
+    let e = f .find-byte .result in
+    let q = f .find-byte .ensures in
+    let a = before 44 s in
+    let b = take (length s - (e + 1)) (drop (e + 1) s) in
+    rw (
+      back-is 44 s e q (i .if1 .left),
+      u8-value-is (u8 a) (m .least .given .0 .0) (sym (m .least .given .1) ∙ p .parse-u8 .ensures ∙ ap (λ t. u8Of (u8 t)) (front-is 44 s e q)),
+      u8-value-is (u8 b) (n .greatest .given .0 .0) (sym (n .greatest .given .1) ∙ p2 .parse-u82 .ensures),
+    )
+
+pub parse-range-spec : {M : Type 1} → statement M
+parse-range-spec =
+    tie.close
+    (tie.spec
+    (λ c κs. search needs)
+    returns
+    (λ c. search needs)
+    (λ c. search needs)
+    part-parse-u8-end
+    (λ c κs. search needs)
+    (λ c. search needs)
+    (λ c. search needs)
+    returns-2
+    add-f
+    sub-parse-u8-2
+    part-parse-u8-start-2
+    (λ c. search needs)
+    (λ c κs. search needs)
+    (λ c. search needs)
+    (λ c. search needs)
+    returns-3
+    returns-4)

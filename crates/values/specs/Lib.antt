@@ -1,0 +1,3 @@
+pub mod Undo
+pub mod Range
+pub mod Stored
