@@ -13,8 +13,8 @@ use Rattle.items.specs.Items.{Item, parse, itemsIn}
 use Rattle.ape.specs.Tag.{replaced}
 use Rattle.ape.specs.Answers.{roomFor}
 use Rattle.calls.specs.Gate.{passesGate, itemsOf, tagFits}
-use Rattle.edit.specs.declared.Gate.{Gate}
-use Rattle.edit.specs.declared.Gate.the-variants.{Items, NotEditable}
+use Rattle.edit.specs.declared.Editable.{Editable}
+use Rattle.edit.specs.declared.Editable.the-variants.{Items, Unfit}
 
 -- the items that the gate finds are those that stand between two places
 pub record Passed (s : List ℕ) (start end count : ℕ) : Type 0 where
@@ -27,9 +27,9 @@ pub record Passed (s : List ℕ) (start end count : ℕ) : Type 0 where
   pub short : end - start ≤ areaLimit
 
 -- each answer of the gate
-abbrev pub GateIs : List ℕ → Gate → Type 0
+abbrev pub GateIs : List ℕ → Editable → Type 0
 GateIs s (Items start end count) = Passed s start end count
-GateIs s NotEditable = passesGate s ≡ false
+GateIs s Unfit = passesGate s ≡ false
 
 -- the last tests of every call that writes a file: refusals 6 and 5
 unfoldable pub tagPlan : List ℕ → List Item → ℕ → Plan (List ℕ)

@@ -18,13 +18,13 @@ use items::Stepped;
 use replies::Refusal;
 
 // Where the items of a file stand that is fit for editing: an empty part where it has no tag.
-pub enum Gate {
+pub enum Editable {
     Items {
         start: usize,
         end: usize,
         count: usize,
     },
-    NotEditable,
+    Unfit,
 }
 
 // Whether the keys and values of a well-formed area are UTF-8.
@@ -67,4 +67,45 @@ fn is_clean(area: &[u8], count: usize) -> bool
     }
     let table = utf8::class_table();
     all_valid(&table, area, count)
+}
+
+// Where the items of the file's tag stand, if the file is fit for editing.
+pub fn gate(file: &[u8]) -> Editable
+    ensures { λ r. ⌜ GateIs (now (file .entry)) r ⌝ }
+{
+    let found = ape::find_footer(file);
+    let Footer::At(footer) = found else {
+        return Editable::Items {
+            start: 0,
+            end: 0,
+            count: 0,
+        };
+    };
+    if frame::read_u32_le(file, footer + 8) != 2000 {
+        return Editable::Unfit;
+    }
+    let size = frame::read_u32_le(file, footer + 12) as usize;
+    if size < 32 {
+        return Editable::Unfit;
+    }
+    let s = frame::ape_tag_start(file, footer);
+    let TagStart::At(_) = s else {
+        return Editable::Unfit;
+    };
+    let count = frame::read_u32_le(file, footer + 16) as usize;
+    if replies::COUNT_LIMIT < count {
+        return Editable::Unfit;
+    }
+    if 32 + replies::AREA_LIMIT < size {
+        return Editable::Unfit;
+    }
+    let start = footer + 32 - size;
+    if !is_clean(&file[start..footer], count) {
+        return Editable::Unfit;
+    }
+    Editable::Items {
+        start,
+        end: footer,
+        count,
+    }
 }
