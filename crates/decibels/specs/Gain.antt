@@ -10,7 +10,7 @@ use Rattle.lists.specs.Bytes.{ascii, same}
 use Rattle.lists.specs.Choice.{found}
 use Rattle.number.specs.Fields.{before, behind}
 use Rattle.number.specs.Reading.{natural, isMinus, unsigned, withSign}
-use Rattle.number.specs.Writing.{places, decimal, signByte}
+use Rattle.decimal.specs.Writing.{places, decimal, signByte}
 use Rattle.decibels.specs.declared.Millionths.{Millionths}
 use Rattle.decibels.specs.declared.Count as c
 use Rattle.decibels.specs.declared.GainField as g

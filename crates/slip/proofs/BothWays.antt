@@ -15,8 +15,8 @@ use Rattle.lists.specs.Choice.{found}
 use Rattle.lists.proofs.Same.{same-true}
 use Rattle.number.specs.Fields.{before, behind}
 use Rattle.number.specs.Reading.{isDigit, digitsFrom, natural, isMinus, unsigned, withSign, whole}
-use Rattle.number.specs.Writing.{decimal, signed}
-use Rattle.number.proofs.ReadBack.{digits-at-most, whole-signed}
+use Rattle.decimal.specs.Writing.{decimal, signed}
+use Rattle.decimal.proofs.ReadBack.{digits-at-most, whole-signed}
 use Rattle.frame.specs.declared.GainMode.{GainMode}
 use Rattle.replies.specs.declared.Refusal.the-variants.{StepOutOfRange, MalformedSlip}
 use Rattle.replies.specs.Refusal.{need, refusalOf}

@@ -13,10 +13,10 @@ use Rattle.lists.specs.Bytes.{ascii, all, same}
 use Rattle.number.specs.Trim.{isSpace, trimLeft, keep, trimRight, trim}
 use Rattle.number.specs.Fields.{before, behind, field}
 use Rattle.number.specs.Reading.{natural, unsigned, isMinus, whole, isI32, isU8, i32, u8}
-use Rattle.number.specs.Writing.{places, decimal, signed}
-use Rattle.number.proofs.Places.{length-places}
+use Rattle.decimal.specs.Writing.{places, decimal, signed}
+use Rattle.decimal.proofs.Places.{length-places}
 use Rattle.number.proofs.Limits.{provided-holds}
-use Rattle.number.proofs.ReadBack.{marks-signed, marks-places, before-marks, behind-marks, comma, i32-signed, u8-places, i32-places, length-decimal, Plain, plain-before, plain-marks}
+use Rattle.decimal.proofs.ReadBack.{marks-signed, marks-places, before-marks, behind-marks, comma, i32-signed, u8-places, i32-places, length-decimal, Plain, plain-before, plain-marks}
 use Rattle.keys.specs.Keys.{upper, upperAll, sameKey}
 use Rattle.frame.specs.declared.GainMode.the-variants.{Saturating}
 use Rattle.frame.specs.Gain.{adjust}

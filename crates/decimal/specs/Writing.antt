@@ -7,8 +7,8 @@ use lib.ListN.{length, replicate}
 use lib.Dec.{ltb}
 use lib.IntN.{ℤ, pos, negsuc, natAbs}
 use Rattle.lists.specs.Write.{over}
-use Rattle.number.specs.declared.Text.{Text}
-use Rattle.number.specs.declared.Shifted.{Shifted}
+use Rattle.decimal.specs.declared.Text.{Text}
+use Rattle.decimal.specs.declared.Shifted.{Shifted}
 
 -- the last k digits of n
 unfoldable pub places : ℕ → ℕ → List ℕ

@@ -11,11 +11,11 @@ use lib.IntN.{natAbs}
 use Rattle.integers.proofs.Sign.{whole-apart}
 use Rattle.lists.specs.Write.{splice}
 use Rattle.lists.proofs.Wrote.{start, next, done}
-use Rattle.number.specs.Writing.{signed, decimal, signByte, isNegative}
-use Rattle.number.proofs.Lists.{put-one}
-use Rattle.number.proofs.Places.{negative}
-use Rattle.number.proofs.put_signed.Statement.{statement}
-use Rattle.number.proofs.put_signed.Tie as tie
+use Rattle.decimal.specs.Writing.{signed, decimal, signByte, isNegative}
+use Rattle.decimal.proofs.Lists.{put-one}
+use Rattle.decimal.proofs.Places.{negative}
+use Rattle.decimal.proofs.put_signed.Statement.{statement}
+use Rattle.decimal.proofs.put_signed.Tie as tie
 
 -- the size is that of the number
 magnitude-requires : tie.Need-magnitude-requires
