@@ -172,14 +172,14 @@ pub fn accumulate_undo(text: &[u8], left: GainSteps, right: GainSteps) -> UndoVa
 fn parse_range(text: &[u8]) -> RangeField
     ensures { λ r. ⌜ r ≡ R.rangeIs (R.parseRange (now (text .entry))) ⌝ }
 {
-    let e = lists::find_byte(text, 0, b',');
-    if e == text.len() {
+    let comma = lists::find_byte(text, 0, b',');
+    if comma == text.len() {
         return RangeField::Nothing;
     }
-    let U8Field::Value(least) = number::parse_u8(&text[0..e]) else {
+    let U8Field::Value(least) = number::parse_u8(&text[0..comma]) else {
         return RangeField::Nothing;
     };
-    let f = e + 1;
+    let f = comma + 1;
     let U8Field::Value(greatest) = number::parse_u8(&text[f..]) else {
         return RangeField::Nothing;
     };

@@ -17,6 +17,13 @@ use Rattle.decibels.specs.Gain.{fraction, millionths}
 use Rattle.decibels.proofs.parse_millionths.Statement.{statement}
 use Rattle.decibels.proofs.parse_millionths.Tie as tie
 
+-- what follows the point is a part of the text
+behind-point : (c : tie.After-known-told) → (c .before .before .before .before .before .before .before .find-byte .result) + 1 ≤ length (c .before .before .before .before .before .before .before .before .before .args .s .now)
+behind-point c =
+    let i = c .before .before .before .before .before .before in
+    let f = i .before in
+    within-back 46 (f .before .before .args .s .now) (f .find-byte .result) (f .find-byte .ensures) (i .if1 .left)
+
 returns : tie.Need-returns
 unfolding millionths
 returns c =
@@ -58,18 +65,6 @@ returns-3 c =
       le-leb (length (before 46 s)) 4 (omega (arith, length-front 46 s e q)),
       nothing-is (natural (before 46 s)) (sym (c .enum-told .given .1) ∙ p .parse-natural .ensures ∙ front s e q (j .if2 .left)),
     )
-
-sub-fraction : tie.Need-sub-fraction
-sub-fraction c =
-    let i = c .before .before .before .before .before .before in
-    let f = i .before in
-    omega (arith, within-back 46 (f .before .before .args .s .now) (f .find-byte .result) (f .find-byte .ensures) (i .if1 .left))
-
-part-fraction-start : tie.Need-part-fraction-start
-part-fraction-start c =
-    let i = c .before .before .before .before .before .before in
-    let f = i .before in
-    omega (arith, within-back 46 (f .before .before .args .s .now) (f .find-byte .result) (f .find-byte .ensures) (i .if1 .left))
 
 returns-4 : tie.Need-returns-4
 unfolding millionths
@@ -127,8 +122,8 @@ parse-millionths-spec =
     (λ c. search needs)
     returns-3
     (λ c. search needs)
-    sub-fraction
-    part-fraction-start
+    (λ c. omega (arith, behind-point c))
+    (λ c. omega (arith, behind-point c))
     (λ c. search needs)
     (λ c κs. search needs)
     (λ c. search needs)

@@ -1,5 +1,5 @@
 use borrow.Author.Needs.{needs}
-use Prim.Native.Nat.{_+_, _-_}
+use Prim.Native.Nat.{_+_, _-_, _≤_}
 use mathlib.Core.Path.{_≡_, sym, ap, _∙_}
 use native.Mathlib.Omega.{arith}
 use lib.ListN.{length, take, drop}
@@ -10,6 +10,13 @@ use Rattle.number.proofs.Cuts.{front-is, within-text, no-back, within-back, bac
 use Rattle.values.specs.Range.{parseRange}
 use Rattle.values.proofs.parse_range.Statement.{statement}
 use Rattle.values.proofs.parse_range.Tie as tie
+
+-- what follows the comma is a part of the text
+behind-comma : (c : tie.After-known-told) → (c .before .before .before .before .before .before .find-byte .result) + 1 ≤ length (c .before .before .before .before .before .before .before .before .args .text .now)
+behind-comma c =
+    let i = c .before .before .before .before .before in
+    let f = i .before in
+    within-back 44 (f .before .before .args .text .now) (f .find-byte .result) (f .find-byte .ensures) (i .if1 .left)
 
 returns : tie.Need-returns
 unfolding parseRange
@@ -34,24 +41,6 @@ returns-2 c =
     let q = f .find-byte .ensures in
     let a = before 44 s in
     rw (back-is 44 s e q (i .if1 .left), u8-nothing-is (u8 a) (sym (c .enum-told .given .1) ∙ p .parse-u8 .ensures ∙ ap (λ t. u8Of (u8 t)) (front-is 44 s e q)))
-
-add-f : tie.Need-add-f
-add-f c =
-    let i = c .before .before .before .before .before in
-    let f = i .before in
-    omega (arith, within-back 44 (f .before .before .args .text .now) (f .find-byte .result) (f .find-byte .ensures) (i .if1 .left))
-
-sub-parse-u8-2 : tie.Need-sub-parse-u8-2
-sub-parse-u8-2 c =
-    let i = c .before .before .before .before .before in
-    let f = i .before in
-    omega (arith, within-back 44 (f .before .before .args .text .now) (f .find-byte .result) (f .find-byte .ensures) (i .if1 .left))
-
-part-parse-u8-start-2 : tie.Need-part-parse-u8-start-2
-part-parse-u8-start-2 c =
-    let i = c .before .before .before .before .before in
-    let f = i .before in
-    omega (arith, within-back 44 (f .before .before .args .text .now) (f .find-byte .result) (f .find-byte .ensures) (i .if1 .left))
 
 returns-3 : tie.Need-returns-3
 unfolding parseRange
@@ -105,9 +94,9 @@ parse-range-spec =
     (λ c. search needs)
     (λ c. search needs)
     returns-2
-    add-f
-    sub-parse-u8-2
-    part-parse-u8-start-2
+    (λ c. omega (arith, behind-comma c))
+    (λ c. omega (arith, behind-comma c))
+    (λ c. omega (arith, behind-comma c))
     (λ c. search needs)
     (λ c κs. search needs)
     (λ c. search needs)
