@@ -1,4 +1,5 @@
 use borrow.Author.Needs.{needs}
+use mathlib.Core.Option.{some}
 use mathlib.Core.Path.{_≡_, sym, ap, _∙_}
 use Rattle.keys.specs.Keys.{whichKey}
 use Rattle.keys.proofs.Keys.{which-some, which-none}
@@ -13,15 +14,19 @@ returns c =
     let g = w .before .before .before .args in
     rw (which-none (whichKey (g .key .now)) (sym (c .before .enum-told .given .1) ∙ w .which-key .ensures)) (c .as-found .ensures)
 
+-- the key is one of the eight
+found-key : (c : tie.After-known-told) → whichKey (c .before .before .before .before .before .before .args .key .now) ≡ some (c .before .i .given .0 .0)
+found-key c =
+    let i = c .before in
+    let w = i .before .before in
+    which-some (whichKey (w .before .before .before .args .key .now)) (i .i .given .0 .0) (sym (i .i .given .1) ∙ w .which-key .ensures)
+
 returns-2 : tie.Need-returns-2
 unfolding shiftStored
 returns-2 c =
     let t = c .before in
     let r = t .before in
-    let i = r .before .before in
-    let w = i .before .before in
-    let g = w .before .before .before .args in
-    rw (which-some (whichKey (g .key .now)) (i .i .given .0 .0) (sym (i .i .given .1) ∙ w .which-key .ensures), ← r .is-either .ensures, t .if1 .taken) (c .shift-range .ensures)
+    rw (found-key (r .before), ← r .is-either .ensures, t .if1 .taken) (c .shift-range .ensures)
 
 returns-3 : tie.Need-returns-3
 unfolding shiftStored
@@ -30,10 +35,7 @@ returns-3 c =
     let n = u .before in
     let t = n .before in
     let r = t .before in
-    let i = r .before .before in
-    let w = i .before .before in
-    let g = w .before .before .before .args in
-    rw (which-some (whichKey (g .key .now)) (i .i .given .0 .0) (sym (i .i .given .1) ∙ w .which-key .ensures), ← r .is-either .ensures, t .if1 .left, ← n .is-either2 .ensures, u .if2 .taken) (c .shift-gain .ensures)
+    rw (found-key (r .before), ← r .is-either .ensures, t .if1 .left, ← n .is-either2 .ensures, u .if2 .taken) (c .shift-gain .ensures)
 
 returns-4 : tie.Need-returns-4
 unfolding shiftStored
@@ -42,10 +44,7 @@ returns-4 c =
     let n = u .before in
     let t = n .before in
     let r = t .before in
-    let i = r .before .before in
-    let w = i .before .before in
-    let g = w .before .before .before .args in
-    rw (which-some (whichKey (g .key .now)) (i .i .given .0 .0) (sym (i .i .given .1) ∙ w .which-key .ensures), ← r .is-either .ensures, t .if1 .left, ← n .is-either2 .ensures, u .if2 .left) (c .as-found2 .ensures)
+    rw (found-key (r .before), ← r .is-either .ensures, t .if1 .left, ← n .is-either2 .ensures, u .if2 .left) (c .as-found2 .ensures)
 
 pub shift-stored-value-spec : {M : Type 1} → statement M
 shift-stored-value-spec =
