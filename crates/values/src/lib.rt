@@ -249,6 +249,13 @@ fn shift_range(text: &[u8], steps: GainSteps) -> Shifted
     }
 }
 
+// The kinds of values that a shift tells apart.
+pub enum Kind {
+    Range,
+    Gain,
+    Other,
+}
+
 // The places of four keys in the table of eight.
 const MINMAX: usize = 1;
 
@@ -268,31 +275,42 @@ fn is_either(i: usize, a: usize, b: usize) -> bool
     i == b
 }
 
+// What kind of value an item with this key holds.
+fn kind_of(key: &[u8]) -> Kind
+    ensures { λ r. ⌜ r ≡ S.kindOf (now (key .entry)) ⌝ }
+{
+    let Which::Key(i) = keys::which_key(key) else {
+        return Kind::Other;
+    };
+    if is_either(i, MINMAX, ALBUM_MINMAX) {
+        return Kind::Range;
+    }
+    if is_either(i, TRACK_GAIN, ALBUM_GAIN) {
+        return Kind::Gain;
+    }
+    Kind::Other
+}
+
 // Whether an item is a range of which a number leaves 0..255.
 pub fn range_wraps_out(key: &[u8], value: &[u8], steps: GainSteps) -> bool
     ensures { λ r. ⌜ r ≡ S.rangeWrapsOut (now (key .entry)) (now (value .entry)) (steps .0) ⌝ }
 {
-    let Which::Key(i) = keys::which_key(key) else {
-        return false;
-    };
-    if !is_either(i, MINMAX, ALBUM_MINMAX) {
-        return false;
+    let kind = kind_of(key);
+    match kind {
+        Kind::Range => wraps_out(value, steps),
+        Kind::Gain => false,
+        Kind::Other => false,
     }
-    wraps_out(value, steps)
 }
 
 // A stored value after so many steps. Peaks and values of other keys stay as found.
 pub fn shift_stored_value(key: &[u8], value: &[u8], steps: GainSteps) -> Shifted
     ensures { λ r. ⌜ r ≡ shiftedIs (S.shiftStored (now (key .entry)) (now (value .entry)) (steps .0)) ⌝ }
 {
-    let Which::Key(i) = keys::which_key(key) else {
-        return decimal::as_found();
-    };
-    if is_either(i, MINMAX, ALBUM_MINMAX) {
-        return shift_range(value, steps);
+    let kind = kind_of(key);
+    match kind {
+        Kind::Range => shift_range(value, steps),
+        Kind::Gain => decibels::shift_gain(value, steps),
+        Kind::Other => decimal::as_found(),
     }
-    if is_either(i, TRACK_GAIN, ALBUM_GAIN) {
-        return decibels::shift_gain(value, steps);
-    }
-    decimal::as_found()
 }
