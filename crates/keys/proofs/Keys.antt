@@ -12,7 +12,7 @@ use lib.Dec.{leb, eqb}
 use borrow.Author.Tests.{lt-leb, le-leb, leb-true, ne-eqb}
 use Rattle.lists.specs.Bytes.{among, all, same, placeOf}
 use Rattle.lists.specs.Choice.{found, isSome}
-use Rattle.lists.proofs.Same.{same-true, same-refl, same-unequal}
+use Rattle.lists.proofs.Same.{and-false, same-true, same-refl, same-unequal}
 use Rattle.keys.specs.Keys.{upper, upperAll, sameKey, whichOf, keys, whichKey, whichIs, isFrom, isMp3gainKey, isUndone, isReplayGain, undoKey, minmaxKey, printable, isReserved, isKey}
 use Rattle.keys.specs.declared.Which.{Which}
 use Rattle.keys.specs.declared.Which.the-variants.{Key, Other}
@@ -95,6 +95,11 @@ same-caseless key = record { cased = λ a b e. unfold sameKey in rw (key-true a 
 
 -- ---- the lookup
 
+-- every name has a length from m to n
+abbrev pub allLengths : ℕ → ℕ → List (List ℕ) → Bool
+allLengths m n [] = true
+allLengths m n (x ∷ ns) = among m n (length x) && allLengths m n ns
+
 pub which-same : (ns : List (List ℕ)) (a b : List ℕ) → sameKey a b ≡ true → whichOf ns a ≡ whichOf ns b
 unfolding whichOf sameKey
 which-same [] a b e = refl
@@ -115,6 +120,22 @@ which-is (n ∷ ns) k i e = go (sameKey k n) (whichOf ns k) refl refl e (which-i
     go true o u w e f = let q : _≡_ {A = ℕ} 0 i = cc in rw (← q) (omega arith, u)
     go false none u w e f = absurd (let z : _≡_ {A = ℕ} 0 1 = cc in omega arith)
     go false (some j) u w e f = let q : suc j ≡ i = cc in let (l, s) = f j w in rw (← q) (omega arith, s)
+
+-- a key is none of names that have other lengths
+pub which-length : (m n : ℕ) (ns : List (List ℕ)) (k : List ℕ) → among m n (length k) ≡ false → allLengths m n ns ≡ true → whichOf ns k ≡ none
+unfolding whichOf
+which-length m n [] k h e = refl
+which-length m n (x ∷ ns) k h e =
+    let (p, q) = and-eq-true-iff (among m n (length x)) (allLengths m n ns) .0 e in
+    rw (key-unequal k x (λ l. true≢false (sym p ∙ ap (among m n) (sym l) ∙ h)), which-length m n ns k h q)
+
+pub short-key : (k : List ℕ) → length k < 12 → whichKey k ≡ none
+unfolding whichKey keys
+short-key k h = which-length 12 21 keys k (rw (lt-leb 12 (length k) h)) refl
+
+pub long-key : (k : List ℕ) → 21 < length k → whichKey k ≡ none
+unfolding whichKey keys
+long-key k h = which-length 12 21 keys k (rw (lt-leb (length k) 21 h) (and-false (leb 12 (length k)))) refl
 
 -- what an answer of the code says
 pub which-some : (o : Option ℕ) (i : ℕ) → Key i ≡ whichIs o → o ≡ some i

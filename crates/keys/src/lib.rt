@@ -116,10 +116,17 @@ pub fn put_upper(out: &mut [u8], at: usize, src: &[u8]) -> usize
     at + i
 }
 
-// Looks a key up in the table, without regard to case.
+// Looks a key up in the table, without regard to case. Most keys are shorter than each of the eight, so the lengths are tested before
+// the table is set up.
 pub fn which_key(key: &[u8]) -> Which
     ensures { λ r. ⌜ r ≡ whichIs (whichKey (now (key .entry))) ⌝ }
 {
+    if key.len() < 12 {
+        return Which::Other;
+    }
+    if key.len() > 21 {
+        return Which::Other;
+    }
     let table = MP3GAIN_VALUE_KEYS;
     let mut i = 0;
     while i < 8 {

@@ -5,7 +5,7 @@ use Prim.Native.Nat.{ℕ, _+_, _-_, _≤_}
 use native.Mathlib.Nat.{add-assoc, zero-add, add-zero}
 use native.Mathlib.Omega.{arith}
 use lib.ListN.{length, take, drop, length-append, length-drop, take-append-drop, drop-of-length-le}
-use lib.Seq.{take-at, take-all, drop-drop, drop-append-add, length-take-le}
+use lib.Seq.{take-at, take-all, take-append-le, take-take, drop-at, drop-drop, drop-append-add, length-take-le}
 use Rattle.lists.specs.Write.{over, splice}
 
 -- xs is out with w written into it from at to k. A record, so that antt finds the lists at each use
@@ -27,6 +27,18 @@ next {out} {xs} {ys} {w} {at} {k} {r} x p y =
     let back : drop (k + length p) xs ≡ drop (at + length (w ++ p)) out = rw (x .is, ← head, drop-append-add, drop-drop, length-append, add-assoc) in
     record { room = fits; ends = simp length-append (omega arith); is = y .1 ∙ rw (front, back) (simp append-assoc) }
 
+-- the other way round: p was written where w begins, up to it
+pub ahead : {out xs ys w : List ℕ} {at m k : ℕ} → Wrote out m w k xs → (p : List ℕ) → at + length p ≡ m → ys ≡ splice xs at p → Wrote out at (p ++ w) k ys
+ahead {out} {xs} {ys} {w} {at} {m} {k} x p e y =
+    let fits : m ≤ length out = x .room in
+    let long : length (take m out) ≡ m = length-take-le m out fits in
+    let front : take at xs ≡ take at out =
+    rw (x .is) (rw append-assoc (take-append-le at (take m out) (w ++ drop (m + length w) out) (omega arith) ∙ take-take at m out (omega arith))) in
+    let back : drop (at + length p) xs ≡ w ++ drop (at + length (p ++ w)) out =
+    let i : at + length (p ++ w) ≡ m + length w = simp length-append (omega arith) in
+    rw (e, x .is, i) (rw append-assoc (drop-at (take m out) (w ++ drop (m + length w) out) m long)) in
+    record { room = omega arith; ends = simp length-append (omega (arith, x .ends)); is = y ∙ rw (front, back) (simp append-assoc) }
+
 -- what a function that writes from at ensures
 pub done : {out xs w : List ℕ} {at k : ℕ} → Wrote out at w k xs → (k ≡ at + length w) × (xs ≡ splice out at w)
 done x = (x .ends, x .is)
@@ -34,6 +46,13 @@ done x = (x .ends, x .is)
 -- what a function that writes from the start ensures
 pub from-start : {w out xs : List ℕ} {k : ℕ} → Wrote out 0 w k xs → xs ≡ over w out
 from-start x = x .is ∙ rw zero-add
+
+-- writing from 0 is writing at the front
+pub at-front : (out w : List ℕ) → splice out 0 w ≡ over w out
+at-front out w = rw zero-add
+
+pub first : (out w : List ℕ) {xs : List ℕ} → xs ≡ over w out → Wrote out 0 w (length w) xs
+first out w e = record { room = omega arith; ends = omega arith; is = e ∙ sym (at-front out w) }
 
 -- ---- the rest of an output, lent to a callee as `&mut out[at..]`, and what came back
 
@@ -51,3 +70,8 @@ module _ (out : List ℕ) (at : ℕ) where
       let y : ys ≡ w ++ drop (at + length w) out = e ∙ rw (rest, drop-drop) in
       let n : drop (length out - at) (drop at out) ≡ [] = drop-of-length-le (drop at out) {i = length out - at} (rw length-drop (omega arith)) in
       rw (y, n, append-nil) (simp append-assoc)
+
+-- p was written to the front of the rest that begins where w ends
+pub into-rest : {out xs w : List ℕ} {k : ℕ} → Wrote out 0 w k xs → (p ys : List ℕ) → ys ≡ over p (take (length xs - k) (drop k xs))
+    → Wrote out 0 (w ++ p) (k + length p) (take k xs ++ (ys ++ drop (length xs - k) (drop k xs)))
+into-rest {out} {xs} {w} {k} x p ys e = next x p (refl, home xs k p ys e)

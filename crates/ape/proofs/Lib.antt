@@ -1,0 +1,4 @@
+pub mod Reading
+pub mod Sizing
+pub mod Copying
+pub mod Files

@@ -1,0 +1,285 @@
+// The tag of a file found and read: find_ape_footer and read_ape_tag.
+ghost use mathlib.Core.Path.{_≡_};
+ghost use mathlib.Core.Bool.{true};
+ghost use Prim.Native.Nat.{_≤_, _<_, _+_, min, _-_};
+ghost use lib.Dec.{leb};
+ghost use lib.ListN.{length};
+ghost use Rattle.lists.specs.Choice.{isSome};
+ghost use Rattle.lists.specs.Write.{over, splice};
+ghost use Rattle.utf8.specs.Utf8.{Classes};
+ghost use Rattle.utf8.specs.Write.{answer, within};
+ghost use Rattle.items.specs.Items.{areaBytes, itemBytes, parse, itemsIn};
+ghost use Rattle.ape.specs.Tag.{findFooter, blockBytes, tagBytes, converted, readItems};
+ghost use Rattle.ape.specs.Answers.{footerPlan, footerAnswer, measuredAs, itemsPlan, readPlan, readAnswer, readBytes};
+use frame::TagStart;
+use items::Stepped;
+use replies::Refusal;
+use utf8::Converted;
+
+const APE_VERSION: u32 = 2000;
+
+// Where the footer of a file's tag stands.
+pub enum Footer {
+    At(usize),
+    Nowhere,
+}
+
+// What a search for the footer of a lent file answers.
+pub enum FooterFound {
+    At(usize),
+    Nowhere,
+    Refused(Refusal),
+}
+
+// What reading a file's tag answers: the items' count and the length of the area written.
+pub enum TagRead {
+    NoTag,
+    Items { count: usize, length: usize },
+    Refused(Refusal),
+}
+
+// How many items are read, and how many bytes they have once their texts are converted; or more than there is room for.
+pub enum Measured {
+    Items { count: usize, length: usize },
+    NoRoom,
+}
+
+// How many items an area holds, and how many bytes it has.
+pub struct Area {
+    pub count: usize,
+    pub length: usize,
+}
+
+// The footer at EOF-32; else the one at EOF-160, before an ID3v1 block.
+pub fn find_footer(file: &[u8]) -> Footer
+    ensures { λ r. ⌜ r ≡ findFooter (now (file .entry)) ⌝ }
+{
+    if file.len() < 32 {
+        return Footer::Nowhere;
+    }
+    let last = file.len() - 32;
+    if lists::starts_with(file, last, &frame::APE_PREAMBLE) {
+        return Footer::At(last);
+    }
+    if file.len() < 160 {
+        return Footer::Nowhere;
+    }
+    let before = file.len() - 160;
+    if !lists::starts_with(file, before, &frame::APE_PREAMBLE) {
+        return Footer::Nowhere;
+    }
+    if !frame::ends_with_id3v1(file) {
+        return Footer::Nowhere;
+    }
+    Footer::At(before)
+}
+
+// The same of a lent file: refusal 1.
+pub fn find_ape_footer(file: &[u8]) -> FooterFound
+    ensures { λ r. ⌜ r ≡ footerAnswer (footerPlan (now (file .entry))) ⌝ }
+{
+    if replies::FILE_LIMIT < file.len() {
+        return FooterFound::Refused(Refusal::FileTooLong);
+    }
+    let found = find_footer(file);
+    let Footer::At(at) = found else {
+        return FooterFound::Nowhere;
+    };
+    FooterFound::At(at)
+}
+
+// Writes an item, its key and value converted, into `out` from `at`, and answers where it ends. The texts come first: their length is
+// known only then.
+fn put_item(table: &[u8; 256], out: &mut [u8], at: usize, key: &[u8], value: &[u8]) -> usize
+    requires { ⌜ (Classes (now table)) × (length (now value) ≤ 16777216) × (at + length (itemBytes (converted (now key) (now value))) ≤ length (now out)) ⌝ }
+    ensures { λ r. ⌜ (r ≡ at + length (itemBytes (converted (now (key .entry)) (now (value .entry))))) × (now (out .exit) ≡ splice (now (out .entry)) at (itemBytes (converted (now (key .entry)) (now (value .entry))))) ⌝ }
+{
+    let k = utf8::lossy_put(table, out, at + 8, key);
+    let z = lists::put(out, k, b"\0");
+    let v = utf8::lossy_put(table, out, z, value);
+    lists::put_u32_le(out, at + 4, 0);
+    lists::put_u32_le(out, at, (v - z) as u32);
+    v
+}
+
+// How many bytes an item has once its key and value are converted, where that is at most `room`.
+fn converted_size(table: &[u8; 256], key: &[u8], value: &[u8], room: usize) -> Converted
+    requires { ⌜ Classes (now table) ⌝ }
+    ensures { λ r. ⌜ r ≡ answer (within room (itemBytes (converted (now (key .entry)) (now (value .entry))))) ⌝ }
+{
+    let k = utf8::lossy_within(table, key, room);
+    let Converted::Done(a) = k else {
+        return Converted::NoRoom;
+    };
+    let v = utf8::lossy_within(table, value, room - a);
+    let Converted::Done(b) = v else {
+        return Converted::NoRoom;
+    };
+    let n = a + b;
+    if room - n < 9 {
+        return Converted::NoRoom;
+    }
+    Converted::Done(n + 9)
+}
+
+// How many of at most `count` items are read from these bytes, and how long their area is, where that is at most `room`.
+fn measure_items(table: &[u8; 256], items: &[u8], count: usize, room: usize) -> Measured
+    requires { ⌜ Classes (now table) ⌝ }
+    ensures { λ r. ⌜ r ≡ measuredAs room (readItems count (now (items .entry))) ⌝ }
+{
+    let mut at = 0;
+    let mut left = count;
+    let mut n = 0;
+    let mut size = 0;
+    while 0 < left {
+        let s = items::step_any(items, at);
+        let Stepped::Item {
+            flags: _,
+            key_start,
+            key_end,
+            value_start,
+            value_end,
+        } = s
+        else {
+            return Measured::Items {
+                count: n,
+                length: size,
+            };
+        };
+        let z = converted_size(
+            table,
+            &items[key_start..key_end],
+            &items[value_start..value_end],
+            room - size,
+        );
+        let Converted::Done(item) = z else {
+            return Measured::NoRoom;
+        };
+        size += item;
+        n += 1;
+        at = value_end;
+        left -= 1;
+    }
+    Measured::Items {
+        count: n,
+        length: size,
+    }
+}
+
+// Writes the items that are read from these bytes to the front of `out`: how many, and how long their area is.
+fn write_items(table: &[u8; 256], items: &[u8], count: usize, out: &mut [u8]) -> Area
+    requires { ⌜ (Classes (now table)) × (length (now items) ≤ 16777216) × (length (areaBytes (readItems count (now items))) ≤ length (now out)) ⌝ }
+    ensures { λ r. ⌜ (r .count ≡ length (readItems count (now (items .entry)))) × (r .length ≡ length (areaBytes (readItems count (now (items .entry))))) × (now (out .exit) ≡ over (areaBytes (readItems count (now (items .entry)))) (now (out .entry))) ⌝ }
+{
+    let mut at = 0;
+    let mut left = count;
+    let mut n = 0;
+    let mut o = 0;
+    while 0 < left {
+        let s = items::step_any(items, at);
+        let Stepped::Item {
+            flags: _,
+            key_start,
+            key_end,
+            value_start,
+            value_end,
+        } = s
+        else {
+            return Area {
+                count: n,
+                length: o,
+            };
+        };
+        o = put_item(
+            table,
+            out,
+            o,
+            &items[key_start..key_end],
+            &items[value_start..value_end],
+        );
+        n += 1;
+        at = value_end;
+        left -= 1;
+    }
+    Area {
+        count: n,
+        length: o,
+    }
+}
+
+// Whether the area of the items that are read from these bytes has room. Room for three times the bytes is enough, with no pass to measure.
+fn items_fit(table: &[u8; 256], items: &[u8], count: usize, room: usize) -> bool
+    requires { ⌜ Classes (now table) ⌝ }
+    ensures { λ r. ⌜ r ≡ leb (length (areaBytes (readItems count (now (items .entry))))) room ⌝ }
+{
+    if items.len() <= room / 3 {
+        return true;
+    }
+    let m = measure_items(table, items, count, room);
+    match m {
+        Measured::Items {
+            count: _,
+            length: _,
+        } => true,
+        Measured::NoRoom => false,
+    }
+}
+
+// Reads at most `count` items from these bytes into `out`: refusal 5.
+fn read_items(items: &[u8], count: usize, out: &mut [u8]) -> TagRead
+    requires { ⌜ length (now items) ≤ 16777216 ⌝ }
+    ensures { λ r. ⌜ (r ≡ readAnswer (itemsPlan (length (now (out .entry))) (readItems count (now (items .entry))))) × (now (out .exit) ≡ over (readBytes (itemsPlan (length (now (out .entry))) (readItems count (now (items .entry))))) (now (out .entry))) ⌝ }
+{
+    let table = utf8::class_table();
+    if !items_fit(&table, items, count, least(out.len(), replies::FILE_LIMIT)) {
+        return TagRead::Refused(Refusal::NoRoom);
+    }
+    let a = write_items(&table, items, count, out);
+    TagRead::Items {
+        count: a.count,
+        length: a.length,
+    }
+}
+
+fn least(a: usize, b: usize) -> usize
+    ensures { λ r. ⌜ r ≡ min a b ⌝ }
+{
+    if a < b {
+        return a;
+    }
+    b
+}
+
+// Where the items begin that end at `footer`: at the footer itself where the size is under 32.
+fn items_start(footer: usize, size: usize) -> usize
+    requires { ⌜ size ≤ footer + 32 ⌝ }
+    ensures { λ r. ⌜ (r ≤ footer) × (footer - r ≡ size - 32) × ((32 ≤ size → r ≡ footer + 32 - size)) ⌝ }
+{
+    if size < 32 {
+        return footer;
+    }
+    footer - (size - 32)
+}
+
+// Reads the tag of a file into `area`: no tag, or how many items it has and how long their area is. Refusals 1 and 5.
+pub fn read_ape_tag(file: &[u8], area: &mut [u8]) -> TagRead
+    ensures { λ r. ⌜ (r ≡ readAnswer (readPlan (now (file .entry)) (length (now (area .entry))))) × (now (area .exit) ≡ over (readBytes (readPlan (now (file .entry)) (length (now (area .entry))))) (now (area .entry))) ⌝ }
+{
+    if replies::FILE_LIMIT < file.len() {
+        return TagRead::Refused(Refusal::FileTooLong);
+    }
+    let found = find_footer(file);
+    let Footer::At(footer) = found else {
+        return TagRead::NoTag;
+    };
+    if frame::read_u32_le(file, footer + 8) != APE_VERSION {
+        return TagRead::NoTag;
+    }
+    let size = frame::read_u32_le(file, footer + 12) as usize;
+    if footer + 32 < size {
+        return TagRead::NoTag;
+    }
+    let count = frame::read_u32_le(file, footer + 16) as usize;
+    let start = items_start(footer, size);
+    read_items(&file[start..footer], count, area)
+}

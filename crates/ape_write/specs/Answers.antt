@@ -1,0 +1,60 @@
+-- What the calls answer and write that make a tag, or a file with another tag.
+use Prim.Native.Nat.{ℕ, _+_, _≤_}
+use mathlib.Core.Bool.{cond}
+use mathlib.Core.Path.{_≡_}
+use mathlib.Core.List.{List, [], _∷_, _++_}
+use lib.ListN.{length, take}
+use lib.Dec.{eqb}
+use Rattle.lists.specs.Choice.{isSome}
+use Rattle.lists.specs.Write.{part}
+use Rattle.replies.specs.Refusal.{Test, need, refusalOf, Plan, no, yes, planned}
+use Rattle.replies.specs.declared.Refusal.the-variants.{MalformedArea}
+use Rattle.items.specs.Items.{parse, itemsIn}
+use Rattle.ape.specs.Tag.{Split, blockBytes, headerFlags, footerFlags, serialize, replaced}
+use Rattle.ape.specs.Answers.{lentFits, roomFor}
+use Rattle.ape_write.specs.declared.Written.{Written}
+use Rattle.ape_write.specs.declared.Written.the-variants.{Done, Refused}
+
+-- refusal 12: the area is exactly so many items
+abbrev pub areaFits : ℕ → List ℕ → Test
+areaFits count area = need MalformedArea (isSome (parse count area))
+
+-- a tag of so many items whose area is given
+unfoldable pub tagParts : List ℕ → ℕ → List ℕ
+tagParts area count =
+    let size = length area + 32 in
+    blockBytes size count headerFlags ++ (area ++ blockBytes size count footerFlags)
+
+-- how long a tag is: nothing for no items, else 64 bytes besides them
+abbrev pub tagLength : ℕ → ℕ → ℕ
+tagLength n count = cond (eqb count 0) 0 (n + 64)
+
+-- the length of what is written, or the refusal
+abbrev pub writtenAnswer : Plan (List ℕ) → Written
+writtenAnswer (no r) = Refused r
+writtenAnswer (yes w) = Done (length w)
+
+-- what is written: nothing when refused
+abbrev pub writtenBytes : Plan (List ℕ) → List ℕ
+writtenBytes (no r) = []
+writtenBytes (yes w) = w
+
+-- serialize_ape_tag
+unfoldable pub serializePlan : List ℕ → ℕ → ℕ → Plan (List ℕ)
+serializePlan area count room =
+    let w = serialize (itemsIn count area) in
+    planned (refusalOf (areaFits count area ∷ roomFor room w ∷ [])) w
+
+-- replace_ape_tag
+unfoldable pub replacePlan : List ℕ → List ℕ → ℕ → ℕ → Plan (List ℕ)
+replacePlan file area count room =
+    let w = replaced file (itemsIn count area) in
+    planned (refusalOf (lentFits file ∷ areaFits count area ∷ roomFor room w ∷ [])) w
+
+-- where a file is cut: up to `front` is what precedes its tag, and what follows it stands between `from` and `to`
+pub record Cuts (x : Split) (s : List ℕ) (front from to : ℕ) : Type 0 where
+  pub front-is : take front s ≡ x .front
+  pub back-is : part from to s ≡ x .back
+  pub front-within : front ≤ length s
+  pub order : from ≤ to
+  pub within : to ≤ length s

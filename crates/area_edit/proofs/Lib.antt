@@ -1,0 +1,4 @@
+pub mod Dropping
+pub mod Plans
+pub mod Setting
+pub mod Again

@@ -1,0 +1,83 @@
+-- Edits of a lent item area (document 01, "Editing and writing"): refused, or new items that are written to the front of the output.
+use Prim.Native.Nat.{ℕ, _+_}
+use mathlib.Core.Bool.{Bool, true, false, _&&_}
+use mathlib.Core.List.{List, [], _∷_, _++_}
+use lib.ListN.{length}
+use lib.Dec.{leb}
+use Rattle.lists.specs.Choice.{found, isSome}
+use Rattle.lists.specs.Le.{u32le}
+use Rattle.lists.specs.Write.{part}
+use Rattle.replies.specs.Limits.{fileLimit}
+use Rattle.replies.specs.Refusal.{Test, need, refusalOf, Plan, no, yes, planned}
+use Rattle.replies.specs.declared.Refusal.the-variants.{MalformedArea, BadKey, NotUtf8, NoRoom}
+use Rattle.utf8.specs.Utf8.{valid}
+use Rattle.keys.specs.Keys.{upperAll, sameKey, isMp3gainKey, isUndone, isReplayGain, isKey}
+use Rattle.items.specs.Items.{Item, areaBytes, parse, itemsIn, setItem, without, removeItem}
+use Rattle.items.specs.declared.Place.{Place}
+use Rattle.items.specs.declared.Place.the-variants.{At, Nowhere, Malformed as BadArea}
+use Rattle.area_edit.specs.declared.Drop.{Drop}
+use Rattle.area_edit.specs.declared.Drop.the-variants.{Key, Undone, ReplayGain, Mp3gain}
+use Rattle.area_edit.specs.declared.Measured.{Measured}
+use Rattle.area_edit.specs.declared.Measured.the-variants.{Size, Malformed}
+use Rattle.area_edit.specs.declared.Edited.{Edited}
+use Rattle.area_edit.specs.declared.Edited.the-variants.{Done, Refused}
+
+-- which items are dropped, by their keys
+abbrev pub dropped : Drop → List ℕ → List ℕ → Bool
+dropped Key key = sameKey key
+dropped Undone key = isUndone
+dropped ReplayGain key = isReplayGain
+dropped Mp3gain key = isMp3gainKey
+
+-- how many items f makes of those of an area, and how many bytes they have
+abbrev pub measuredOf : (List Item → List Item) → ℕ → List ℕ → Measured
+measuredOf f n s = found (parse n s) Malformed (λ ts. Size (length (f ts)) (length (areaBytes (f ts))))
+
+-- refusal 5: the area of the items fits into `room` bytes and into a file
+abbrev pub fits : ℕ → List Item → Bool
+fits room ts = leb (length (areaBytes ts)) room && leb (length (areaBytes ts)) fileLimit
+
+-- the items of an area of n, edited by f, for `room` bytes; `tests` are those of the edit itself
+unfoldable pub edited : List Test → (List Item → List Item) → ℕ → List ℕ → ℕ → Plan (List Item)
+edited tests f n s room =
+    planned (refusalOf (need MalformedArea (isSome (parse n s)) ∷ need NoRoom (fits room (f (itemsIn n s))) ∷ tests)) (f (itemsIn n s))
+
+-- the answer: the refusal, or how many items were written and how many bytes
+abbrev pub answer : Plan (List Item) → Edited
+answer (no r) = Refused r
+answer (yes ts) = Done (length ts) (length (areaBytes ts))
+
+-- what is written: nothing where it is refused
+abbrev pub bytes : Plan (List Item) → List ℕ
+bytes (no r) = []
+bytes (yes ts) = areaBytes ts
+
+-- ---- the calls
+
+-- refusals 12, 3, 4 and 5
+abbrev pub setPlan : List ℕ → List ℕ → ℕ → List ℕ → ℕ → Plan (List Item)
+setPlan key value n s room = edited (need BadKey (isKey key) ∷ need NotUtf8 (valid value) ∷ []) (setItem key value) n s room
+
+-- refusals 12, 3 and 5
+abbrev pub removePlan : List ℕ → ℕ → List ℕ → ℕ → Plan (List Item)
+removePlan key n s room = edited (need BadKey (isKey key) ∷ []) (removeItem key) n s room
+
+-- the items whose keys pass the test go; refusals 12 and 5
+abbrev pub dropPlan : (List ℕ → Bool) → ℕ → List ℕ → ℕ → Plan (List Item)
+dropPlan p n s room = edited [] (without p) n s room
+
+-- the search found the area malformed
+abbrev pub isMalformed : Place → Bool
+isMalformed (At start stop end) = false
+isMalformed Nowhere = false
+isMalformed BadArea = true
+
+-- ---- the bytes that set writes
+
+-- s with another value in the item from a to e, whose key ends at k
+unfoldable pub replaced : List ℕ → ℕ → ℕ → ℕ → List ℕ → List ℕ
+replaced s a k e value = (((part 0 a s ++ u32le (length value)) ++ part (a + 4) (k + 1) s) ++ value) ++ part e (length s) s
+
+-- s with one more item behind it
+unfoldable pub appended : List ℕ → List ℕ → List ℕ → List ℕ
+appended s key value = ((((s ++ u32le (length value)) ++ u32le 0) ++ upperAll key) ++ (0 ∷ [])) ++ value

@@ -1,0 +1,317 @@
+// Edits of a lent item area: the new area is written to the front of a lent output.
+ghost use mathlib.Core.Path.{_≡_};
+ghost use mathlib.Core.Bool.{true};
+ghost use mathlib.Core.List.{[]};
+ghost use Prim.Native.Nat.{_≤_, _<_, _+_, _-_};
+ghost use lib.ListN.{length};
+ghost use Rattle.lists.specs.Choice.{isSome};
+ghost use Rattle.lists.specs.Write.{over};
+ghost use Rattle.replies.specs.Limits.{fileLimit};
+ghost use Rattle.keys.specs.Keys.{isMp3gainKey, isUndone, isReplayGain};
+ghost use Rattle.items.specs.Items.{areaBytes, parse, itemsIn, setItem, without};
+ghost use Rattle.items.specs.Answers.{locateOf};
+ghost use Rattle.area_edit.specs.Edits.{dropped, measuredOf, answer, bytes, setPlan, removePlan, dropPlan, isMalformed, replaced, appended};
+use items::Place;
+use items::Stepped;
+use replies::Refusal;
+
+// Which items go: those with a key that is lent beside it, or those with some of the eight keys.
+pub enum Drop {
+    Key,
+    Undone,
+    ReplayGain,
+    Mp3gain,
+}
+
+// How many items an edit makes, and how many bytes they have.
+pub enum Measured {
+    Size { count: usize, length: usize },
+    Malformed,
+}
+
+// The same of a well-formed area.
+pub struct Measure {
+    pub count: usize,
+    pub length: usize,
+}
+
+// What an edit wrote.
+pub enum Edited {
+    Done { count: usize, length: usize },
+    Refused(Refusal),
+}
+
+// Whether an item with this key goes.
+pub fn drops(what: Drop, key: &[u8], other: &[u8]) -> bool
+    ensures { λ r. ⌜ r ≡ dropped what (now (key .entry)) (now (other .entry)) ⌝ }
+{
+    match what {
+        Drop::Key => keys::same_key(key, other),
+        Drop::Undone => keys::is_undone(other),
+        Drop::ReplayGain => keys::is_replaygain(other),
+        Drop::Mp3gain => keys::is_mp3gain(other),
+    }
+}
+
+// What is left of an area without the items that go, in one pass that also tests the area.
+pub fn measure_without(area: &[u8], count: usize, what: Drop, key: &[u8]) -> Measured
+    ensures { λ r. ⌜ r ≡ measuredOf (without (dropped what (now (key .entry)))) count (now (area .entry)) ⌝ }
+{
+    if count > area.len() / 9 {
+        return Measured::Malformed;
+    }
+    let mut at = 0;
+    let mut left = count;
+    let mut n = 0;
+    let mut size = 0;
+    while 0 < left {
+        let s = items::step(area, at);
+        let Stepped::Item {
+            flags: _,
+            key_start,
+            key_end,
+            value_start: _,
+            value_end,
+        } = s
+        else {
+            return Measured::Malformed;
+        };
+        left -= 1;
+        if !drops(what, key, &area[key_start..key_end]) {
+            n += 1;
+            size += value_end - at;
+        }
+        at = value_end;
+    }
+    if at != area.len() {
+        return Measured::Malformed;
+    }
+    Measured::Size {
+        count: n,
+        length: size,
+    }
+}
+
+// Writes the items of a well-formed area that stay to the front of `out`.
+pub fn write_without(area: &[u8], count: usize, what: Drop, key: &[u8], out: &mut [u8]) -> usize
+    requires { ⌜ (isSome (parse count (now area)) ≡ true) × (length (areaBytes (without (dropped what (now key)) (itemsIn count (now area)))) ≤ length (now out)) ⌝ }
+    ensures { λ r. ⌜ (r ≡ length (areaBytes (without (dropped what (now (key .entry))) (itemsIn count (now (area .entry)))))) × (now (out .exit) ≡ over (areaBytes (without (dropped what (now (key .entry))) (itemsIn count (now (area .entry))))) (now (out .entry))) ⌝ }
+{
+    let mut at = 0;
+    let mut left = count;
+    let mut o = 0;
+    while 0 < left {
+        let s = items::step(area, at);
+        let Stepped::Item {
+            flags: _,
+            key_start,
+            key_end,
+            value_start: _,
+            value_end,
+        } = s
+        else {
+            return o;
+        };
+        left -= 1;
+        if !drops(what, key, &area[key_start..key_end]) {
+            o = lists::put_part(out, o, area, at, value_end);
+        }
+        at = value_end;
+    }
+    o
+}
+
+// The area without the items that go.
+fn edit_without(area: &[u8], count: usize, what: Drop, key: &[u8], out: &mut [u8]) -> Edited
+    ensures { λ r. ⌜ (r ≡ answer (dropPlan (dropped what (now (key .entry))) count (now (area .entry)) (length (now (out .entry))))) × (now (out .exit) ≡ over (bytes (dropPlan (dropped what (now (key .entry))) count (now (area .entry)) (length (now (out .entry))))) (now (out .entry))) ⌝ }
+{
+    let m = measure_without(area, count, what, key);
+    let Measured::Size {
+        count: n,
+        length: size,
+    } = m
+    else {
+        return Edited::Refused(Refusal::MalformedArea);
+    };
+    if out.len() < size {
+        return Edited::Refused(Refusal::NoRoom);
+    }
+    if size > replies::FILE_LIMIT {
+        return Edited::Refused(Refusal::NoRoom);
+    }
+    let end = write_without(area, count, what, key, out);
+    Edited::Done {
+        count: n,
+        length: end,
+    }
+}
+
+// The area without the items that have this key.
+pub fn remove(area: &[u8], count: usize, key: &[u8], out: &mut [u8]) -> Edited
+    ensures { λ r. ⌜ (r ≡ answer (removePlan (now (key .entry)) count (now (area .entry)) (length (now (out .entry))))) × (now (out .exit) ≡ over (bytes (removePlan (now (key .entry)) count (now (area .entry)) (length (now (out .entry))))) (now (out .entry))) ⌝ }
+{
+    if keys::is_key(key) {
+        return edit_without(area, count, Drop::Key, key, out);
+    }
+    if !items::well_formed(area, count) {
+        return Edited::Refused(Refusal::MalformedArea);
+    }
+    Edited::Refused(Refusal::BadKey)
+}
+
+// The area without REPLAYGAIN_KEYS.
+pub fn remove_replaygain(area: &[u8], count: usize, out: &mut [u8]) -> Edited
+    ensures { λ r. ⌜ (r ≡ answer (dropPlan isReplayGain count (now (area .entry)) (length (now (out .entry))))) × (now (out .exit) ≡ over (bytes (dropPlan isReplayGain count (now (area .entry)) (length (now (out .entry))))) (now (out .entry))) ⌝ }
+{
+    edit_without(area, count, Drop::ReplayGain, b"", out)
+}
+
+// The area without UNDONE_KEYS.
+pub fn drop_undone(area: &[u8], count: usize, out: &mut [u8]) -> Edited
+    ensures { λ r. ⌜ (r ≡ answer (dropPlan isUndone count (now (area .entry)) (length (now (out .entry))))) × (now (out .exit) ≡ over (bytes (dropPlan isUndone count (now (area .entry)) (length (now (out .entry))))) (now (out .entry))) ⌝ }
+{
+    edit_without(area, count, Drop::Undone, b"", out)
+}
+
+// The area without the eight keys.
+pub fn take_mp3gain(area: &[u8], count: usize, out: &mut [u8]) -> Edited
+    ensures { λ r. ⌜ (r ≡ answer (dropPlan isMp3gainKey count (now (area .entry)) (length (now (out .entry))))) × (now (out .exit) ≡ over (bytes (dropPlan isMp3gainKey count (now (area .entry)) (length (now (out .entry))))) (now (out .entry))) ⌝ }
+{
+    edit_without(area, count, Drop::Mp3gain, b"", out)
+}
+
+// Whether the search found the area malformed.
+fn is_malformed(p: Place) -> bool
+    ensures { λ r. ⌜ r ≡ isMalformed p ⌝ }
+{
+    match p {
+        Place::At {
+            start: _,
+            key_end: _,
+            end: _,
+        } => false,
+        Place::Nowhere => false,
+        Place::Malformed => true,
+    }
+}
+
+// What set makes of a well-formed area, `p` being where the first item with the key stands.
+pub fn measure_set(area: &[u8], count: usize, key: &[u8], value: &[u8], p: Place) -> Measure
+    requires { ⌜ (isSome (parse count (now area)) ≡ true) × (p ≡ locateOf (now area) count (now key)) × (length (now key) ≤ 255) × (length (now value) ≤ fileLimit) ⌝ }
+    ensures { λ r. ⌜ (r .count ≡ length (setItem (now (key .entry)) (now (value .entry)) (itemsIn count (now (area .entry))))) × (r .length ≡ length (areaBytes (setItem (now (key .entry)) (now (value .entry)) (itemsIn count (now (area .entry)))))) ⌝ }
+{
+    match p {
+        Place::At {
+            start: _,
+            key_end,
+            end,
+        } => Measure {
+            count,
+            length: key_end + 1 + value.len() + (area.len() - end),
+        },
+        Place::Nowhere => Measure {
+            count: count + 1,
+            length: area.len() + 9 + key.len() + value.len(),
+        },
+        Place::Malformed => Measure { count, length: 0 },
+    }
+}
+
+// Writes the area with another value in the item from `start` to `end`, whose key ends at `stop`, to the front of `out`.
+fn put_replaced(
+    area: &[u8],
+    start: usize,
+    stop: usize,
+    end: usize,
+    value: &[u8],
+    out: &mut [u8],
+) -> usize
+    requires { ⌜ (start + 8 ≤ stop) × (stop < end) × (end ≤ length (now area)) × (length (now value) ≤ fileLimit) × (stop + 1 + length (now value) + (length (now area) - end) ≤ length (now out)) ⌝ }
+    ensures { λ r. ⌜ (r ≡ length (replaced (now (area .entry)) start stop end (now (value .entry)))) × (now (out .exit) ≡ over (replaced (now (area .entry)) start stop end (now (value .entry))) (now (out .entry))) ⌝ }
+{
+    let a = lists::put_part(out, 0, area, 0, start);
+    let b = lists::put_u32_le(out, a, value.len() as u32);
+    let c = lists::put_part(out, b, area, start + 4, stop + 1);
+    let d = lists::put(out, c, value);
+    lists::put_part(out, d, area, end, area.len())
+}
+
+// Writes the area with one more item behind it, its key in upper case, to the front of `out`.
+fn put_appended(area: &[u8], key: &[u8], value: &[u8], out: &mut [u8]) -> usize
+    requires { ⌜ (length (now value) ≤ fileLimit) × (length (now area) + 9 + length (now key) + length (now value) ≤ length (now out)) ⌝ }
+    ensures { λ r. ⌜ (r ≡ length (appended (now (area .entry)) (now (key .entry)) (now (value .entry)))) × (now (out .exit) ≡ over (appended (now (area .entry)) (now (key .entry)) (now (value .entry))) (now (out .entry))) ⌝ }
+{
+    let a = lists::put(out, 0, area);
+    let b = lists::put_u32_le(out, a, value.len() as u32);
+    let c = lists::put_u32_le(out, b, 0);
+    let d = keys::put_upper(out, c, key);
+    let e = lists::put(out, d, b"\0");
+    lists::put(out, e, value)
+}
+
+// Writes what set makes of a well-formed area to the front of `out`, and answers what `measure_set` does.
+pub fn write_set(
+    area: &[u8],
+    count: usize,
+    key: &[u8],
+    value: &[u8],
+    p: Place,
+    out: &mut [u8],
+) -> Measure
+    requires { ⌜ (isSome (parse count (now area)) ≡ true) × (p ≡ locateOf (now area) count (now key)) × (length (now value) ≤ fileLimit) × (length (areaBytes (setItem (now key) (now value) (itemsIn count (now area)))) ≤ length (now out)) ⌝ }
+    ensures { λ r. ⌜ (r .count ≡ length (setItem (now (key .entry)) (now (value .entry)) (itemsIn count (now (area .entry))))) × (r .length ≡ length (areaBytes (setItem (now (key .entry)) (now (value .entry)) (itemsIn count (now (area .entry)))))) × (now (out .exit) ≡ over (areaBytes (setItem (now (key .entry)) (now (value .entry)) (itemsIn count (now (area .entry))))) (now (out .entry))) ⌝ }
+{
+    match p {
+        Place::At {
+            start,
+            key_end,
+            end,
+        } => {
+            let last = put_replaced(area, start, key_end, end, value, out);
+            Measure {
+                count,
+                length: last,
+            }
+        }
+        Place::Nowhere => {
+            let last = put_appended(area, key, value, out);
+            Measure {
+                count: count + 1,
+                length: last,
+            }
+        }
+        Place::Malformed => Measure { count, length: 0 },
+    }
+}
+
+// The area with this value at the first item with this key, which keeps its spelling and place, or with one more item.
+pub fn set(area: &[u8], count: usize, key: &[u8], value: &[u8], out: &mut [u8]) -> Edited
+    ensures { λ r. ⌜ (r ≡ answer (setPlan (now (key .entry)) (now (value .entry)) count (now (area .entry)) (length (now (out .entry))))) × (now (out .exit) ≡ over (bytes (setPlan (now (key .entry)) (now (value .entry)) count (now (area .entry)) (length (now (out .entry))))) (now (out .entry))) ⌝ }
+{
+    let p = items::locate(area, count, key);
+    if is_malformed(p) {
+        return Edited::Refused(Refusal::MalformedArea);
+    }
+    if !keys::is_key(key) {
+        return Edited::Refused(Refusal::BadKey);
+    }
+    if !utf8::is_utf8(value) {
+        return Edited::Refused(Refusal::NotUtf8);
+    }
+    if value.len() > replies::FILE_LIMIT {
+        return Edited::Refused(Refusal::NoRoom);
+    }
+    let m = measure_set(area, count, key, value, p);
+    let n = m.length;
+    if out.len() < n {
+        return Edited::Refused(Refusal::NoRoom);
+    }
+    if n > replies::FILE_LIMIT {
+        return Edited::Refused(Refusal::NoRoom);
+    }
+    let w = write_set(area, count, key, value, p, out);
+    Edited::Done {
+        count: w.count,
+        length: w.length,
+    }
+}

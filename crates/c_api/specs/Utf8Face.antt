@@ -1,0 +1,14 @@
+-- What the faces of crate utf8 answer and leave in their lent numbers.
+use Prim.Native.Nat.{ℕ}
+use Rattle.utf8.specs.declared.Converted.{Converted}
+use Rattle.utf8.specs.declared.Converted.the-variants.{Done, NoRoom}
+
+-- the reply, and what the lent number holds afterwards
+pub record Conversion : Type 0 where
+  pub reply : ℕ
+  pub written : ℕ
+
+-- no room is refusal 5, which leaves the lent number
+abbrev pub conversion : Converted → ℕ → Conversion
+conversion (Done n) old = record { reply = 0; written = n }
+conversion NoRoom old = record { reply = 5; written = old }

@@ -1,0 +1,66 @@
+-- The editing gate (document 01, "Level and undo"), and refusal 6's limits of a tag.
+use Prim.Native.Nat.{ℕ, _+_}
+use mathlib.Core.Bool.{Bool, true, false, _&&_, cond}
+use mathlib.Core.Option.{Option, none, some}
+use mathlib.Core.List.{List, [], _∷_}
+use lib.ListN.{length}
+use lib.Dec.{leb, eqb}
+use Rattle.lists.specs.Choice.{found, provided, isSome}
+use Rattle.replies.specs.Limits.{countLimit, areaLimit}
+use Rattle.frame.specs.Tail.{tagStart}
+use Rattle.utf8.specs.Utf8.{valid}
+use Rattle.items.specs.Items.{Item, areaBytes, parse}
+use Rattle.ape.specs.Tag.{findFooter, footed, started, versionAt, sizeAt, countAt, areaAt}
+
+-- ---- what the gate asks of the footer that stands at f
+
+-- the version of APEv2
+abbrev pub isVersion2 : List ℕ → ℕ → Bool
+isVersion2 s f = eqb (versionAt s f) 2000
+
+-- the size counts the footer at least
+abbrev pub countsFooter : List ℕ → ℕ → Bool
+countsFooter s f = leb 32 (sizeAt s f)
+
+-- the tag starts in the file
+abbrev pub hasStart : List ℕ → ℕ → Bool
+hasStart s f = started (tagStart s f) false (λ n. true)
+
+-- refusal 6: not too many items
+abbrev pub countFits : List ℕ → ℕ → Bool
+countFits s f = leb (countAt s f) countLimit
+
+-- refusal 6: not too many item bytes
+abbrev pub areaFits : List ℕ → ℕ → Bool
+areaFits s f = leb (sizeAt s f) (32 + areaLimit)
+
+-- all of these
+unfoldable pub fit : List ℕ → ℕ → Bool
+fit s f = isVersion2 s f && (countsFooter s f && (hasStart s f && (countFits s f && areaFits s f)))
+
+-- ---- what it asks of the items
+
+-- UTF-8 keys and values
+unfoldable pub allValid : List Item → Bool
+allValid [] = true
+allValid (t ∷ ts) = (valid (t .key) && valid (t .value)) && allValid ts
+
+-- ---- the gate
+
+-- the items that it finds: no footer, no items; else exactly `count` items, flags zero, ending at the footer; none: not fit for editing
+unfoldable pub gateItems : List ℕ → Option (List Item)
+gateItems s = footed (findFooter s) (some []) (λ f. cond (fit s f) (provided allValid (parse (countAt s f) (areaAt s f))) none)
+
+-- does it pass a file?
+unfoldable pub passesGate : List ℕ → Bool
+passesGate s = isSome (gateItems s)
+
+-- the items of a file that it passes
+unfoldable pub itemsOf : List ℕ → List Item
+itemsOf s = found (gateItems s) [] (λ ts. ts)
+
+-- ---- a new tag
+
+-- refusal 6: not too many items, nor too many item bytes
+unfoldable pub tagFits : List Item → Bool
+tagFits ts = leb (length ts) countLimit && leb (length (areaBytes ts)) areaLimit

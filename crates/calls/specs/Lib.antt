@@ -1,0 +1,4 @@
+pub mod Gate
+pub mod Calls
+pub mod Book
+pub mod Run

@@ -1,0 +1,217 @@
+-- Laws of items by key: get, set and without, and what an edit does to their number, their bytes and their reading.
+use Prim.Native.Nat.{ℕ, zero, suc, _+_, _≤_, _<_}
+use native.Mathlib.Omega.{arith}
+use mathlib.Core.Path.{_≡_, refl, sym, ap, _∙_}
+use mathlib.Core.Bool.{Bool, true, false, cond, true≢false}
+use mathlib.Core.Option.{Option, none, some, Option·map}
+use mathlib.Core.List.{List, [], _∷_, _++_}
+use lib.ListN.{length, take, drop, length-append}
+use lib.Dec.{eqb}
+use Rattle.lists.specs.Bytes.{placeOf}
+use Rattle.lists.specs.Choice.{found}
+use Rattle.keys.specs.Keys.{upperAll, sameKey, isMp3gainKey, isKey}
+use Rattle.keys.proofs.Keys.{key-sym, key-upper, length-upper, Caseless, same-caseless, from-caseless, printable-whole, printable-upper, key-printable}
+use Rattle.items.specs.Items.{Item, itemBytes, areaBytes, sizeOf, Head, plainHead, parse, itemsIn, getItem, setItem, without, removeItem}
+use Rattle.items.proofs.Area.{AllSane, whole, plain, length-item, length-area}
+
+-- ---- get, set, without
+
+pub get-set-same : (key value : List ℕ) (ts : List Item) → getItem key (setItem key value ts) ≡ some value
+unfolding getItem setItem
+get-set-same key value [] = rw (key-sym (upperAll key) key (key-upper key))
+get-set-same key value (t ∷ ts) = go (sameKey key (t .key)) refl (get-set-same key value ts)
+  where
+    go : (a : Bool) → sameKey key (t .key) ≡ a → getItem key (setItem key value ts) ≡ some value → getItem key (setItem key value (t ∷ ts)) ≡ some value
+    go true e ih = rw (e, e)
+    go false e ih = rw (e, e) ih
+
+pub get-set-other : (key other value : List ℕ) (ts : List Item) → sameKey key other ≡ false → getItem key (setItem other value ts) ≡ getItem key ts
+unfolding getItem setItem
+get-set-other key other value [] h = rw (same-caseless key .cased (upperAll other) other (key-upper other), h)
+get-set-other key other value (t ∷ ts) h = go (sameKey other (t .key)) refl (get-set-other key other value ts h)
+  where
+    go : (a : Bool) → sameKey other (t .key) ≡ a → getItem key (setItem other value ts) ≡ getItem key ts
+        → getItem key (setItem other value (t ∷ ts)) ≡ getItem key (t ∷ ts)
+    go true e ih =
+        let f : sameKey key (t .key) ≡ false = sym (same-caseless key .cased other (t .key) e) ∙ h in
+        rw (e, f)
+    go false e ih = rw (e, ih)
+
+module _ (p : List ℕ → Bool) (c : Caseless p) where
+  pub get-without : (key : List ℕ) (ts : List Item) → p key ≡ false → getItem key (without p ts) ≡ getItem key ts
+  unfolding getItem without
+  get-without key [] h = refl
+  get-without key (t ∷ ts) h = go (p (t .key)) (sameKey key (t .key)) refl refl (get-without key ts h)
+    where
+      go : (a b : Bool) → p (t .key) ≡ a → sameKey key (t .key) ≡ b → getItem key (without p ts) ≡ getItem key ts
+          → getItem key (without p (t ∷ ts)) ≡ getItem key (t ∷ ts)
+      go true true e f ih = absurd (true≢false (sym e ∙ sym (c .cased key (t .key) f) ∙ h))
+      go true false e f ih = rw (e, f) ih
+      go false b e f ih = rw (e, ih)
+
+  -- an edit of what stays
+  pub set-outside : (key value : List ℕ) (ts : List Item) → p key ≡ false → without p (setItem key value ts) ≡ setItem key value (without p ts)
+  unfolding setItem without
+  set-outside key value [] h =
+      let f : p (upperAll key) ≡ false = c .cased (upperAll key) key (key-upper key) ∙ h in
+      rw f
+  set-outside key value (t ∷ ts) h = go (sameKey key (t .key)) (p (t .key)) refl refl (set-outside key value ts h)
+    where
+      go : (a b : Bool) → sameKey key (t .key) ≡ a → p (t .key) ≡ b → without p (setItem key value ts) ≡ setItem key value (without p ts)
+          → without p (setItem key value (t ∷ ts)) ≡ setItem key value (without p (t ∷ ts))
+      go true b e f ih =
+          let g : p (t .key) ≡ false = sym (c .cased key (t .key) e) ∙ h in
+          rw (e, g, e)
+      go false true e f ih = rw (e, f) ih
+      go false false e f ih = rw (e, f, e, ih)
+
+  -- an edit of what goes
+  pub set-inside : (key value : List ℕ) (ts : List Item) → p key ≡ true → without p (setItem key value ts) ≡ without p ts
+  unfolding setItem without
+  set-inside key value [] h =
+      let f : p (upperAll key) ≡ true = c .cased (upperAll key) key (key-upper key) ∙ h in
+      rw f
+  set-inside key value (t ∷ ts) h = go (sameKey key (t .key)) refl (set-inside key value ts h)
+    where
+      go : (a : Bool) → sameKey key (t .key) ≡ a → without p (setItem key value ts) ≡ without p ts → without p (setItem key value (t ∷ ts)) ≡ without p (t ∷ ts)
+      go true e ih =
+          let g : p (t .key) ≡ true = sym (c .cased key (t .key) e) ∙ h in
+          rw (e, g)
+      go false e ih = rw (e, ih)
+
+pub without-without : (p q : List ℕ → Bool) (ts : List Item) → without p (without q ts) ≡ without q (without p ts)
+unfolding without
+without-without p q [] = refl
+without-without p q (t ∷ ts) = go (p (t .key)) (q (t .key)) refl refl (without-without p q ts)
+  where
+    go : (a b : Bool) → p (t .key) ≡ a → q (t .key) ≡ b → without p (without q ts) ≡ without q (without p ts)
+        → without p (without q (t ∷ ts)) ≡ without q (without p (t ∷ ts))
+    go true true e f ih = rw (e, f) ih
+    go true false e f ih = rw (e, f, e) ih
+    go false true e f ih = rw (e, f) ih
+    go false false e f ih = rw (e, f, e, ih)
+
+pub without-less : (p q : List ℕ → Bool) (ts : List Item) → ((key : List ℕ) → q key ≡ true → p key ≡ true) → without p (without q ts) ≡ without p ts
+unfolding without
+without-less p q [] h = refl
+without-less p q (t ∷ ts) h = go (q (t .key)) refl (without-less p q ts h)
+  where
+    go : (a : Bool) → q (t .key) ≡ a → without p (without q ts) ≡ without p ts → without p (without q (t ∷ ts)) ≡ without p (t ∷ ts)
+    go true e ih = rw (e, h (t .key) e) ih
+    go false e ih = rw (e, ih)
+
+-- ---- the eight keys: an edit by another key commutes with dropping them
+
+module _ (key : List ℕ) (other : isMp3gainKey key ≡ false) where
+  pub set-eight : (value : List ℕ) (ts : List Item) → without isMp3gainKey (setItem key value ts) ≡ setItem key value (without isMp3gainKey ts)
+  set-eight value ts = set-outside isMp3gainKey (from-caseless 0) key value ts other
+
+  pub get-eight : (ts : List Item) → getItem key (without isMp3gainKey ts) ≡ getItem key ts
+  get-eight ts = get-without isMp3gainKey (from-caseless 0) key ts other
+
+pub remove-eight : (key : List ℕ) (ts : List Item) → without isMp3gainKey (removeItem key ts) ≡ removeItem key (without isMp3gainKey ts)
+remove-eight key ts = without-without isMp3gainKey (sameKey key) ts
+
+-- a key removed is not got
+pub get-removed : (key : List ℕ) (ts : List Item) → getItem key (removeItem key ts) ≡ none
+unfolding getItem without
+get-removed key [] = refl
+get-removed key (t ∷ ts) = go (sameKey key (t .key)) refl (get-removed key ts)
+  where
+    go : (a : Bool) → sameKey key (t .key) ≡ a → getItem key (removeItem key ts) ≡ none → getItem key (removeItem key (t ∷ ts)) ≡ none
+    go true e ih = rw e ih
+    go false e ih = rw (e, e) ih
+
+-- ---- sizes
+
+pub count-without : (p : List ℕ → Bool) (ts : List Item) → length (without p ts) ≤ length ts
+unfolding without
+count-without p [] = omega arith
+count-without p (t ∷ ts) = go (p (t .key)) refl (count-without p ts)
+  where
+    go : (a : Bool) → p (t .key) ≡ a → length (without p ts) ≤ length ts → length (without p (t ∷ ts)) ≤ length (t ∷ ts)
+    go true e ih = rw e (omega arith)
+    go false e ih = rw e (omega arith)
+
+pub area-without : (p : List ℕ → Bool) (ts : List Item) → length (areaBytes (without p ts)) ≤ length (areaBytes ts)
+unfolding without areaBytes
+area-without p [] = omega arith
+area-without p (t ∷ ts) = go (p (t .key)) refl (area-without p ts)
+  where
+    go : (a : Bool) → p (t .key) ≡ a → length (areaBytes (without p ts)) ≤ length (areaBytes ts) → length (areaBytes (without p (t ∷ ts))) ≤ length (areaBytes (t ∷ ts))
+    go true e ih = rw e (simp length-append (omega arith))
+    go false e ih = rw e (simp length-append (omega arith))
+
+pub count-set : (key value : List ℕ) (ts : List Item) → (length ts ≤ length (setItem key value ts)) × (length (setItem key value ts) ≤ length ts + 1)
+unfolding setItem
+count-set key value [] = (omega arith, omega arith)
+count-set key value (t ∷ ts) = go (sameKey key (t .key)) refl (count-set key value ts)
+  where
+    go : (a : Bool) → sameKey key (t .key) ≡ a → (length ts ≤ length (setItem key value ts)) × (length (setItem key value ts) ≤ length ts + 1)
+        → (length (t ∷ ts) ≤ length (setItem key value (t ∷ ts))) × (length (setItem key value (t ∷ ts)) ≤ length (t ∷ ts) + 1)
+    go true e ih = rw e (omega arith, omega arith)
+    go false e ih = rw e (omega arith, omega arith)
+
+pub area-set : (key value : List ℕ) (ts : List Item) → length (areaBytes (setItem key value ts)) ≤ length (areaBytes ts) + 9 + length key + length value
+unfolding setItem
+area-set key value [] = let n = length-upper key in omega (arith, length-area (record { key = upperAll key; value = value }) [])
+area-set key value (t ∷ ts) = go (sameKey key (t .key)) refl (area-set key value ts)
+  where
+    go : (a : Bool) → sameKey key (t .key) ≡ a → length (areaBytes (setItem key value ts)) ≤ length (areaBytes ts) + 9 + length key + length value
+        → length (areaBytes (setItem key value (t ∷ ts))) ≤ length (areaBytes (t ∷ ts)) + 9 + length key + length value
+    go true e ih = rw e (omega (arith, length-area (record { key = t .key; value = value }) ts, length-area t ts))
+    go false e ih = rw e (omega (arith, length-area t (setItem key value ts), length-area t ts))
+
+-- ---- items that can be read back
+
+pub sane-without : (p : List ℕ → Bool) (ts : List Item) → AllSane ts → AllSane (without p ts)
+unfolding without
+sane-without p [] s = tt
+sane-without p (t ∷ ts) (s, r) = go (p (t .key)) refl (sane-without p ts r)
+  where
+    go : (a : Bool) → p (t .key) ≡ a → AllSane (without p ts) → AllSane (without p (t ∷ ts))
+    go true e ih = rw e ih
+    go false e ih = rw e (s, ih)
+
+pub sane-set : (key value : List ℕ) (ts : List Item) → placeOf 0 (upperAll key) ≡ length (upperAll key) → AllSane ts → AllSane (setItem key value ts)
+unfolding setItem
+sane-set key value [] n s = (n, tt)
+sane-set key value (t ∷ ts) n (s, r) = go (sameKey key (t .key)) refl (sane-set key value ts n r)
+  where
+    go : (a : Bool) → sameKey key (t .key) ≡ a → AllSane (setItem key value ts) → AllSane (setItem key value (t ∷ ts))
+    go true e ih = rw e (s, r)
+    go false e ih = rw e (s, ih)
+
+-- a key that was read has no zero byte
+key-sane : (s : List ℕ) → placeOf 0 (take (placeOf 0 s) s) ≡ length (take (placeOf 0 s) s)
+unfolding placeOf
+key-sane [] = refl
+key-sane (x ∷ s) = go (eqb x 0) refl (key-sane s)
+  where
+    go : (t : Bool) → eqb x 0 ≡ t → placeOf 0 (take (placeOf 0 s) s) ≡ length (take (placeOf 0 s) s)
+        → placeOf 0 (take (cond t 0 (suc (placeOf 0 s))) (x ∷ s)) ≡ length (take (cond t 0 (suc (placeOf 0 s))) (x ∷ s))
+    go true e ih = refl
+    go false e ih = rw e (ap suc ih)
+
+-- items that were read can be written and read back
+pub parse-sane : (n : ℕ) (s : List ℕ) → AllSane (itemsIn n s)
+unfolding parse
+parse-sane zero [] = tt
+parse-sane zero (x ∷ s) = tt
+parse-sane (suc n) s = go (plainHead s) refl (λ r. parse-sane n r)
+  where
+    inner : (h : Head) (o : Option (List Item)) → placeOf 0 (h .item .key) ≡ length (h .item .key) → AllSane (found o [] (λ ts. ts))
+        → AllSane (found (Option·map (λ ts. h .item ∷ ts) o) [] (λ ts. ts))
+    inner h none k ih = tt
+    inner h (some ts) k ih = (k, ih)
+
+    go : (o : Option Head) → plainHead s ≡ o → ((r : List ℕ) → AllSane (itemsIn n r)) → AllSane (itemsIn (suc n) s)
+    go none q ih = rw q tt
+    go (some h) q ih =
+        let w = whole s h (plain s h q .0) in
+        let k : h .item .key ≡ take (placeOf 0 (drop 8 s)) (drop 8 s) = w .key-is ∙ ap (λ (i : ℕ). take i (drop 8 s)) (w .key-long) in
+        rw q (inner h (parse n (h .rest)) (rw k (key-sane (drop 8 s))) (ih (h .rest)))
+
+-- a good key can be read back as it is set
+pub sane-key : (key : List ℕ) → isKey key ≡ true → placeOf 0 (upperAll key) ≡ length (upperAll key)
+sane-key key k = printable-whole (upperAll key) (printable-upper key (key-printable key k))

@@ -1,0 +1,104 @@
+-- Laws of runs of characters.
+use Prim.Native.Nat.{ℕ, zero, suc, _+_, _-_, _≤_, _<_}
+use native.Mathlib.Omega.{arith}
+use mathlib.Core.Path.{_≡_, refl, sym, ap, _∙_}
+use mathlib.Core.List.{List, [], _∷_, _++_, append-nil}
+use lib.Dec.{eqb}
+use lib.ListN.{length, getD, drop, length-append, take-append-drop}
+use lib.Seq.{drop-cons, drop-drop, take-add}
+use borrow.Author.Tests.{lt-ltb, ne-eqb}
+use Rattle.utf8.specs.declared.Part.the-variants.{Good, Bad}
+use Rattle.utf8.specs.Utf8.{stepOf, mark, valid, validFrom, lossy, lossyFrom}
+use Rattle.utf8.proofs.Laws.{valid-plain, valid-append, valid-char, lossy-append}
+use Rattle.lists.specs.Bytes.{all}
+use Rattle.lists.specs.Write.{part}
+use Rattle.lists.proofs.Places.{length-part}
+use Rattle.utf8.specs.Runs.{Stretch, stopOf, Ran}
+use Rattle.utf8.proofs.Turn.{Turn, bad, ended}
+
+part-join : (s : List ℕ) (a m e : ℕ) → a ≤ m → m ≤ e → part a e s ≡ part a m s ++ part m e s
+part-join s a m e h k =
+    let p : e - a ≡ (m - a) + (e - m) = omega arith in
+    let q : a + (m - a) ≡ m = omega arith in
+    rw (p, take-add, drop-drop, q)
+
+part-rest : (s : List ℕ) (a e : ℕ) → a ≤ e → drop a s ≡ part a e s ++ drop e s
+part-rest s a e h =
+    let q : a + (e - a) ≡ e = omega arith in
+    sym (take-append-drop (e - a) (drop a s)) ∙ rw (drop-drop, q)
+
+pub none : (s : List ℕ) (at : ℕ) → at ≤ length s → Stretch s at at
+none s at h =
+    let z : at - at ≡ 0 = omega arith in
+    record { order = omega arith; inside = h; good = rw z (unfold valid validFrom in refl) }
+
+pub join : {s : List ℕ} {a m e : ℕ} → Stretch s a m → Stretch s m e → Stretch s a e
+join {s} {a} {m} {e} x y =
+    record {
+      order = omega arith;
+      inside = y .inside;
+      good = rw (part-join s a m e (x .order) (y .order), valid-append (part a m s) (part m e s) (x .good)) (y .good);
+    }
+
+-- one more ASCII byte
+pub plain : {s : List ℕ} {a m : ℕ} (e : ℕ) → Stretch s a m → e ≡ m + 1 → e ≤ length s → getD s m 0 < 0x80 → Stretch s a e
+unfolding all
+plain {s} {a} {m} e x n h b =
+    let one : e - m ≡ 1 = omega arith in
+    let in-s : m < length s = omega arith in
+    join x (record { order = omega arith; inside = h; good = rw (one, drop-cons s m 0) (valid-plain (getD s m 0 ∷ []) (rw (lt-ltb _ _ b))) })
+
+-- one more character
+pub char : {s : List ℕ} {a m n : ℕ} → Stretch s a m → stepOf (drop m s) ≡ Good n → m + n ≤ length s → Stretch s a (m + n)
+char {s} {a} {m} {n} x e h =
+    let z : m + n - m ≡ n = omega arith in
+    join x (record { order = omega arith; inside = h; good = rw z (valid-char (drop m s) n e) })
+
+pub lossy-stretch : {s : List ℕ} {a e : ℕ} → Stretch s a e → lossy (drop a s) ≡ part a e s ++ lossy (drop e s)
+lossy-stretch {s} {a} {e} x = ap lossy (part-rest s a e (x .order)) ∙ lossy-append (part a e s) (drop e s) (x .good)
+
+valid-stretch : {s : List ℕ} {a e : ℕ} → Stretch s a e → valid (drop a s) ≡ valid (drop e s)
+valid-stretch {s} {a} {e} x = ap valid (part-rest s a e (x .order)) ∙ valid-append (part a e s) (drop e s) (x .good)
+
+-- at the end there is nothing more
+pub last : {s : List ℕ} {a e b : ℕ} → Ran s a e b → b ≡ 0 → drop e s ≡ []
+last {s} {a} {e} {b} x h = ended s e (sym (x .stop)) (rw h)
+
+broken : (s : List ℕ) (e b : ℕ) → stepOf (drop e s) ≡ stopOf b → (b ≡ 0 → ⊥) → Turn s e (Bad b)
+broken s e zero p h = absurd (h refl)
+broken s e (suc n) p h = bad (sym p) refl
+
+-- an ill-formed part is marked
+pub marked : {s : List ℕ} {a e b : ℕ} → Ran s a e b → (b ≡ 0 → ⊥) → lossy (drop a s) ≡ part a e s ++ (mark ++ lossy (drop (e + b) s))
+marked {s} {a} {e} {b} x h = lossy-stretch (x .stretch) ∙ rw (broken s e b (x .stop) h .gives)
+
+pub unmarked : {s : List ℕ} {a e b : ℕ} → Ran s a e b → b ≡ 0 → lossy (drop a s) ≡ part a e s
+unmarked {s} {a} {e} {b} x h =
+    let empty : lossy [] ≡ [] = unfold lossy lossyFrom in refl in
+    lossy-stretch (x .stretch) ∙ rw (last x h, empty, append-nil)
+
+valid-stop : (s : List ℕ) (e b : ℕ) → stepOf (drop e s) ≡ stopOf b → valid (drop e s) ≡ eqb b 0
+valid-stop s e zero p = rw (ended s e (sym p) refl) (unfold valid validFrom in refl)
+valid-stop s e (suc n) p = let t : Turn s e (Bad (suc n)) = bad (sym p) refl in t .tells ∙ sym (ne-eqb (suc n) 0 (λ q. omega arith))
+
+-- the text from a place is valid where no ill-formed part follows
+pub valid-ran : {s : List ℕ} {a e b : ℕ} → Ran s a e b → valid (drop a s) ≡ eqb b 0
+valid-ran {s} {a} {e} {b} x = valid-stretch (x .stretch) ∙ valid-stop s e b (x .stop)
+
+pub stops : (n : ℕ) → 0 < n → Bad n ≡ stopOf n
+stops zero h = absurd (omega arith)
+stops (suc n) h = refl
+
+-- ---- sizes
+
+pub part-size : {s : List ℕ} {a e : ℕ} → Stretch s a e → length (part a e s) ≡ e - a
+part-size {s} {a} {e} x = length-part a e s (x .inside)
+
+pub size-stretch : {s : List ℕ} {a e : ℕ} → Stretch s a e → length (lossy (drop a s)) ≡ (e - a) + length (lossy (drop e s))
+size-stretch {s} {a} {e} x = ap length (lossy-stretch x) ∙ rw (length-append, part-size x)
+
+pub size-unmarked : {s : List ℕ} {a e b : ℕ} → Ran s a e b → b ≡ 0 → length (lossy (drop a s)) ≡ e - a
+size-unmarked x h = ap length (unmarked x h) ∙ part-size (x .stretch)
+
+pub size-marked : {s : List ℕ} {a e b : ℕ} → Ran s a e b → (b ≡ 0 → ⊥) → length (lossy (drop a s)) ≡ (e - a) + (3 + length (lossy (drop (e + b) s)))
+size-marked {s} {a} {e} {b} x h = ap length (marked x h) ∙ rw (length-append, length-append, part-size (x .stretch))

@@ -1,0 +1,290 @@
+// UTF-8 by the Unicode standard: what stands at a place of a text, whether a text is well formed, and the text with U+FFFD in place of each ill-formed part.
+ghost use mathlib.Core.Path.{_≡_};
+ghost use Prim.Native.Nat.{_≤_, _+_};
+ghost use lib.ListN.{length, drop};
+ghost use Rattle.lists.specs.Write.{over, splice};
+ghost use Rattle.utf8.specs.Utf8.{class, numberOf, Classes, begins, follow, stepOf, valid, lossy};
+ghost use Rattle.utf8.specs.Runs.{Stretch, Ran};
+ghost use Rattle.utf8.specs.Write.{answer, bytes, within};
+
+mod table;
+
+// What stands at a place: a character of so many bytes, an ill-formed part of so many, or the end.
+pub enum Part {
+    Good(usize),
+    Bad(usize),
+    End,
+}
+
+// Where characters end, and how many bytes the ill-formed part there has.
+pub struct Run {
+    pub end: usize,
+    pub bad: usize,
+}
+
+// How many bytes there are, or that there is no room for them.
+pub enum Converted {
+    Done(usize),
+    NoRoom,
+}
+
+// The table of class numbers. A call copies it once and lends it to the functions that take `table`.
+pub fn class_table() -> [u8; 256]
+    ensures { λ r. ⌜ Classes r ⌝ }
+{
+    table::CLASS
+}
+
+fn wide(x: u8) -> usize
+    ensures { λ r. ⌜ r ≡ x ⌝ }
+{
+    x as usize
+}
+
+// The class number of a first byte.
+fn number_of(table: &[u8; 256], b: u8) -> u8
+    requires { ⌜ Classes (now table) ⌝ }
+    ensures { λ r. ⌜ r ≡ numberOf b ⌝ }
+{
+    let n = wide(b);
+    table[n]
+}
+
+// Does a byte from low to high stand at this place?
+fn follows(s: &[u8], at: usize, low: u8, high: u8) -> bool
+    ensures { λ r. ⌜ r ≡ begins low high (drop at (now (s .entry))) ⌝ }
+{
+    if at >= s.len() {
+        return false;
+    }
+    if s[at] < low {
+        return false;
+    }
+    s[at] <= high
+}
+
+// A character of two bytes, whose second stands at `at` and lies from low to high: is it there?
+fn two(s: &[u8], at: usize, low: u8, high: u8) -> Part
+    ensures { λ r. ⌜ r ≡ follow (class 1 low high) (drop at (now (s .entry))) ⌝ }
+{
+    if !follows(s, at, low, high) {
+        return Part::Bad(1);
+    }
+    Part::Good(2)
+}
+
+// The same of three bytes.
+fn three(s: &[u8], at: usize, low: u8, high: u8) -> Part
+    requires { ⌜ at ≤ length (now s) ⌝ }
+    ensures { λ r. ⌜ r ≡ follow (class 2 low high) (drop at (now (s .entry))) ⌝ }
+{
+    if !follows(s, at, low, high) {
+        return Part::Bad(1);
+    }
+    if !follows(s, at + 1, 0x80, 0xBF) {
+        return Part::Bad(2);
+    }
+    Part::Good(3)
+}
+
+// The same of four bytes.
+fn four(s: &[u8], at: usize, low: u8, high: u8) -> Part
+    requires { ⌜ at ≤ length (now s) ⌝ }
+    ensures { λ r. ⌜ r ≡ follow (class 3 low high) (drop at (now (s .entry))) ⌝ }
+{
+    if !follows(s, at, low, high) {
+        return Part::Bad(1);
+    }
+    if !follows(s, at + 1, 0x80, 0xBF) {
+        return Part::Bad(2);
+    }
+    if !follows(s, at + 2, 0x80, 0xBF) {
+        return Part::Bad(3);
+    }
+    Part::Good(4)
+}
+
+// What stands at this place. Each number is a row of table 3-7.
+pub fn step_by(table: &[u8; 256], s: &[u8], at: usize) -> Part
+    requires { ⌜ Classes (now table) ⌝ }
+    ensures { λ r. ⌜ r ≡ stepOf (drop at (now (s .entry))) ⌝ }
+{
+    if at >= s.len() {
+        return Part::End;
+    }
+    let k = number_of(table, s[at]);
+    let next = at + 1;
+    match k {
+        0 => Part::Good(1),
+        1 => two(s, next, 0x80, 0xBF),
+        2 => three(s, next, 0xA0, 0xBF),
+        3 => three(s, next, 0x80, 0xBF),
+        4 => three(s, next, 0x80, 0x9F),
+        5 => three(s, next, 0x80, 0xBF),
+        6 => four(s, next, 0x90, 0xBF),
+        7 => four(s, next, 0x80, 0xBF),
+        8 => four(s, next, 0x80, 0x8F),
+        _ => Part::Bad(1),
+    }
+}
+
+// What stands at this place of the text.
+pub fn step(s: &[u8], at: usize) -> Part
+    ensures { λ r. ⌜ r ≡ stepOf (drop at (now (s .entry))) ⌝ }
+{
+    let table = class_table();
+    step_by(&table, s, at)
+}
+
+// Where the ASCII from here ends.
+fn plain_end(s: &[u8], from: usize) -> usize
+    requires { ⌜ from ≤ length (now s) ⌝ }
+    ensures { λ r. ⌜ Stretch (now (s .entry)) from r ⌝ }
+{
+    let mut at = from;
+    while at < s.len() {
+        if s[at] >= 0x80 {
+            return at;
+        }
+        at += 1;
+    }
+    at
+}
+
+// Where the characters of three bytes from here end, of the row that has most of them.
+fn threes_end(table: &[u8; 256], s: &[u8], from: usize) -> usize
+    requires { ⌜ (Classes (now table)) × (from ≤ length (now s)) ⌝ }
+    ensures { λ r. ⌜ Stretch (now (s .entry)) from r ⌝ }
+{
+    let mut at = from;
+    while at < s.len() {
+        if number_of(table, s[at]) != 3 {
+            return at;
+        }
+        let x = three(s, at + 1, 0x80, 0xBF);
+        let Part::Good(n) = x else {
+            return at;
+        };
+        at += n;
+    }
+    at
+}
+
+// Where the characters from here end, and how many bytes the ill-formed part there has: none at the end of the text.
+fn run_from(table: &[u8; 256], s: &[u8], from: usize) -> Run
+    requires { ⌜ (Classes (now table)) × (from ≤ length (now s)) ⌝ }
+    ensures { λ r. ⌜ Ran (now (s .entry)) from (r .end) (r .bad) ⌝ }
+{
+    let mut at = from;
+    while at < s.len() {
+        if s[at] < 0x80 {
+            at = plain_end(s, at + 1);
+            continue;
+        }
+        let x = step_by(table, s, at);
+        match x {
+            Part::Good(n) => {
+                at = threes_end(table, s, at + n);
+            }
+            Part::Bad(n) => {
+                return Run { end: at, bad: n };
+            }
+            Part::End => {
+                return Run { end: at, bad: 0 };
+            }
+        }
+    }
+    Run { end: at, bad: 0 }
+}
+
+// Is the text well-formed UTF-8? With the table lent.
+pub fn is_utf8_by(table: &[u8; 256], s: &[u8]) -> bool
+    requires { ⌜ Classes (now table) ⌝ }
+    ensures { λ r. ⌜ r ≡ valid (now (s .entry)) ⌝ }
+{
+    let r = run_from(table, s, 0);
+    r.bad == 0
+}
+
+// Is the text well-formed UTF-8?
+pub fn is_utf8(s: &[u8]) -> bool
+    ensures { λ r. ⌜ r ≡ valid (now (s .entry)) ⌝ }
+{
+    let table = class_table();
+    is_utf8_by(&table, s)
+}
+
+// How many bytes the text has with U+FFFD in place of each ill-formed part, where that is at most `room`. With the table lent.
+pub fn lossy_within(table: &[u8; 256], s: &[u8], room: usize) -> Converted
+    requires { ⌜ Classes (now table) ⌝ }
+    ensures { λ r. ⌜ r ≡ answer (within room (lossy (now (s .entry)))) ⌝ }
+{
+    let mut at = 0;
+    let mut size = 0;
+    loop {
+        let r = run_from(table, s, at);
+        let n = r.end - at;
+        if room - size < n {
+            return Converted::NoRoom;
+        }
+        size += n;
+        if r.bad == 0 {
+            return Converted::Done(size);
+        }
+        if room - size < 3 {
+            return Converted::NoRoom;
+        }
+        size += 3;
+        at = r.end + r.bad;
+    }
+}
+
+// How many bytes the text has with U+FFFD in place of each ill-formed part, where that is at most `room`.
+pub fn lossy_size(s: &[u8], room: usize) -> Converted
+    ensures { λ r. ⌜ r ≡ answer (within room (lossy (now (s .entry)))) ⌝ }
+{
+    let table = class_table();
+    lossy_within(&table, s, room)
+}
+
+// Writes the text, with U+FFFD in place of each ill-formed part, into `out` from `at`, and answers where it ends. With the table lent.
+pub fn lossy_put(table: &[u8; 256], out: &mut [u8], at: usize, s: &[u8]) -> usize
+    requires { ⌜ (Classes (now table)) × (at + length (lossy (now s)) ≤ length (now out)) ⌝ }
+    ensures { λ r. ⌜ (r ≡ at + length (lossy (now (s .entry)))) × (now (out .exit) ≡ splice (now (out .entry)) at (lossy (now (s .entry)))) ⌝ }
+{
+    let mut from = 0;
+    let mut o = at;
+    loop {
+        let r = run_from(table, s, from);
+        let e = r.end;
+        let bad = r.bad;
+        let p = lists::put_part(out, o, s, from, e);
+        if bad == 0 {
+            return p;
+        }
+        o = lists::put(out, p, b"\xEF\xBF\xBD");
+        from = e + bad;
+    }
+}
+
+// Writes the text, with U+FFFD in place of each ill-formed part, at the front of `out` where there is room; else nothing is written.
+// What is written is at least as long as `s`, at most three times as long, and `s` itself where that is UTF-8.
+pub fn lossy_into(s: &[u8], out: &mut [u8]) -> Converted
+    ensures { λ r. ⌜ (r ≡ answer (within (length (now (out .entry))) (lossy (now (s .entry))))) × (now (out .exit) ≡ over (bytes (within (length (now (out .entry))) (lossy (now (s .entry))))) (now (out .entry))) ⌝ }
+{
+    if out.len() < s.len() {
+        return Converted::NoRoom;
+    }
+    let table = class_table();
+    if s.len() <= out.len() / 3 {
+        return Converted::Done(lossy_put(&table, out, 0, s));
+    }
+    if is_utf8_by(&table, s) {
+        return Converted::Done(lists::put(out, 0, s));
+    }
+    let x = lossy_within(&table, s, out.len());
+    let Converted::Done(_) = x else {
+        return Converted::NoRoom;
+    };
+    Converted::Done(lossy_put(&table, out, 0, s))
+}

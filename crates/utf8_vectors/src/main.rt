@@ -1,0 +1,95 @@
+// Replays the recorded answers of Rust's standard library for crate utf8.
+ghost use Prim.Native.Nat.{_≤_};
+use utf8::Converted;
+use vectors::Tally;
+
+// `utf8 TEXT BOOL`.
+fn well_formed(text: &[u8], at: usize) -> bool {
+    let mut s = [0u8; 1024];
+    let n = vectors::hex_bytes(text, at, &mut s);
+    utf8::is_utf8(&s[0..n]) == lists::starts_with(text, vectors::next_word(text, at), b"1")
+}
+
+// Whether the conversion fits and has this length.
+fn fits(s: &[u8], out: &mut [u8]) -> bool {
+    let x = utf8::lossy_into(s, out);
+    match x {
+        Converted::Done(n) => n == out.len(),
+        Converted::NoRoom => false,
+    }
+}
+
+fn same(a: &[u8; 3072], b: &[u8; 3072]) -> bool {
+    lists::equal(a, b)
+}
+
+// Whether these are what the conversion writes into room for m bytes.
+fn writes(s: &[u8], m: usize, wanted: &[u8; 3072]) -> bool
+    requires { ⌜ m ≤ 3072 ⌝ }
+{
+    let mut out = [0u8; 3072];
+    if fits(s, &mut out[0..m]) {
+        return same(&out, wanted);
+    }
+    false
+}
+
+// Whether room for m bytes is not enough, and stays as it was.
+fn refuses(s: &[u8], m: usize) -> bool
+    requires { ⌜ m ≤ 3072 ⌝ }
+{
+    let none = [0u8; 3072];
+    let mut out = [0u8; 3072];
+    if fits(s, &mut out[0..m]) {
+        return false;
+    }
+    same(&out, &none)
+}
+
+// `lossy TEXT CONVERTED`: in exactly enough room, and in one byte less.
+fn lossy(text: &[u8], at: usize) -> bool {
+    let mut s = [0u8; 1024];
+    let n = vectors::hex_bytes(text, at, &mut s);
+    let mut wanted = [0u8; 3072];
+    let m = vectors::hex_bytes(text, vectors::next_word(text, at), &mut wanted);
+    if 0 < m {
+        if !refuses(&s[0..n], m - 1) {
+            return false;
+        }
+    }
+    writes(&s[0..n], m, &wanted)
+}
+
+// Whether the answer in the line at this place is the library's.
+fn agrees(text: &[u8], at: usize) -> bool {
+    let from = vectors::next_word(text, at);
+    if lists::starts_with(text, at, b"utf8 ") {
+        return well_formed(text, from);
+    }
+    if lists::starts_with(text, at, b"lossy ") {
+        return lossy(text, from);
+    }
+    false
+}
+
+fn replay(text: &[u8]) -> Tally {
+    let mut answers: u64 = 0;
+    let mut differ: u64 = 0;
+    let mut at = 0;
+    while at < text.len() {
+        if vectors::is_answer(text, at) {
+            answers = std::num::wrapping_add_u64(answers, 1);
+            if !agrees(text, at) {
+                differ = std::num::wrapping_add_u64(differ, 1);
+            }
+        }
+        at = vectors::next_line(text, at);
+    }
+    Tally { answers, differ }
+}
+
+fn main() {
+    let mut text = vectors::buffer();
+    let n = io::read_full(0, &mut text);
+    vectors::report(b"utf8", replay(&text[..n]));
+}

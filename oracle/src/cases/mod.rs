@@ -1,0 +1,16 @@
+//! One module for each crate of the library that is compared.
+
+use crate::tools::{Bench, Compare, Record};
+
+mod frame;
+mod utf8;
+
+/// What a module offers: recorded answers, a comparison, and what is timed.
+pub struct Case {
+    pub name: &'static str,
+    pub record: fn(&mut Record),
+    pub compare: fn(&mut Compare),
+    pub bench: fn(&mut Bench),
+}
+
+pub const ALL: &[Case] = &[frame::CASE, utf8::CASE];

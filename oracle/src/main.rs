@@ -1,0 +1,79 @@
+//! The judge: the published Rust beside the proved library.
+//!
+//!     oracle record  [--seed N] [--check] [NAME..]    write the recorded answers that the repository replays without Rust
+//!     oracle compare [--seed N] [--count N] [NAME..]  compare both on generated inputs; the first difference ends it with status 1
+//!     oracle bench   [NAME..]                       time both sides in one run, and print their ratios
+//!
+//! NAME is a module of `cases`; without one, all of them. README.md says how to add one.
+
+// The names that the published files look for in their crate.
+#[allow(dead_code)]
+#[path = "standin/analysis.rs"]
+mod analysis;
+#[allow(dead_code)]
+#[path = "standin/apply.rs"]
+mod apply;
+#[allow(dead_code)]
+#[path = "standin/error.rs"]
+mod error;
+#[allow(dead_code)]
+#[path = "standin/gain.rs"]
+mod gain;
+include!(concat!(env!("OUT_DIR"), "/published.rs"));
+
+mod cases;
+mod tools;
+
+use std::process::exit;
+use tools::{Bench, Compare, Record};
+
+fn usage() -> ! {
+    eprintln!(
+        "usage: oracle record [--seed N] [--check] [NAME..] | compare [--seed N] [--count N] [NAME..] | bench [NAME..]"
+    );
+    exit(2)
+}
+
+fn main() {
+    let mut args = std::env::args().skip(1);
+    let command = args.next().unwrap_or_else(|| usage());
+    let (mut seed, mut count, mut check, mut names) = (1u64, 1_000_000u64, false, Vec::new());
+    while let Some(arg) = args.next() {
+        let mut number = || args.next().and_then(|v| v.replace('_', "").parse().ok()).unwrap_or_else(|| usage());
+        match arg.as_str() {
+            "--seed" => seed = number(),
+            "--count" => count = number(),
+            "--check" => check = true,
+            name if cases::ALL.iter().any(|c| c.name == name) => names.push(name.to_string()),
+            _ => usage(),
+        }
+    }
+    let chosen = cases::ALL.iter().filter(|c| names.is_empty() || names.iter().any(|n| n == c.name));
+    match command.as_str() {
+        "record" => {
+            for case in chosen {
+                let mut r = Record::new(case.name, seed);
+                (case.record)(&mut r);
+                r.finish(check);
+            }
+        }
+        "compare" => {
+            let mut all = 0;
+            for case in chosen {
+                let mut c = Compare::new(case.name, seed, count);
+                (case.compare)(&mut c);
+                println!("{}: {} inputs, no difference (seed {seed})", case.name, c.inputs);
+                all += c.inputs;
+            }
+            println!("oracle: {all} inputs, no difference");
+        }
+        "bench" => {
+            let mut b = Bench::new();
+            for case in chosen {
+                (case.bench)(&mut b);
+            }
+            b.print();
+        }
+        _ => usage(),
+    }
+}

@@ -1,0 +1,228 @@
+//! What the case modules share: random numbers, the comparison with its search for a small input, recorded lines, and times.
+
+use std::fmt::Debug;
+use std::hint::black_box;
+use std::path::Path;
+use std::time::Instant;
+
+/// A small generator of pseudo-random numbers (SplitMix64): the same seed gives the same inputs everywhere.
+pub struct Rng(u64);
+
+impl Rng {
+    pub fn new(seed: u64) -> Self {
+        Rng(seed)
+    }
+
+    pub fn next(&mut self) -> u64 {
+        self.0 = self.0.wrapping_add(0x9E37_79B9_7F4A_7C15);
+        let mut z = self.0;
+        z = (z ^ (z >> 30)).wrapping_mul(0xBF58_476D_1CE4_E5B9);
+        z = (z ^ (z >> 27)).wrapping_mul(0x94D0_49BB_1331_11EB);
+        z ^ (z >> 31)
+    }
+
+    /// A number below `n`.
+    pub fn below(&mut self, n: usize) -> usize {
+        (self.next() % n as u64) as usize
+    }
+
+    #[allow(dead_code)]
+    pub fn pick<T: Copy>(&mut self, from: &[T]) -> T {
+        from[self.below(from.len())]
+    }
+
+    pub fn bytes(&mut self, n: usize) -> Vec<u8> {
+        (0..n).map(|_| self.next() as u8).collect()
+    }
+}
+
+/// The bytes in hex; `-` for none, so that a recorded line has a word for it.
+pub fn hex(bytes: &[u8]) -> String {
+    if bytes.is_empty() {
+        return "-".to_string();
+    }
+    bytes.iter().map(|b| format!("{b:02x}")).collect()
+}
+
+/// A comparison in progress.
+pub struct Compare {
+    pub name: &'static str,
+    pub rng: Rng,
+    /// How many random inputs a module should try.
+    pub count: u64,
+    pub inputs: u64,
+}
+
+impl Compare {
+    pub fn new(name: &'static str, seed: u64, count: u64) -> Self {
+        Compare { name, rng: Rng::new(seed), count, inputs: 0 }
+    }
+
+    fn differ<A: Debug>(&self, what: &str, input: &str, published: A, ours: A) -> ! {
+        println!("{}: {what} differs at {input}", self.name);
+        println!("  published: {published:?}");
+        println!("  library:   {ours:?}");
+        std::process::exit(1);
+    }
+
+    /// Both sides on a list of bytes. Where they differ, bytes are left out and cleared while they still do.
+    pub fn bytes<A: PartialEq + Debug>(
+        &mut self,
+        what: &str,
+        input: &[u8],
+        published: impl Fn(&[u8]) -> A,
+        ours: impl Fn(&[u8]) -> A,
+    ) {
+        self.inputs += 1;
+        if published(input) == ours(input) {
+            return;
+        }
+        let differs = |s: &[u8]| published(s) != ours(s);
+        let mut small = input.to_vec();
+        let mut piece = small.len().max(1);
+        while piece > 0 {
+            let mut at = 0;
+            while at < small.len() {
+                let mut shorter = small.clone();
+                shorter.drain(at..(at + piece).min(small.len()));
+                if differs(&shorter) {
+                    small = shorter;
+                } else {
+                    at += piece;
+                }
+            }
+            piece /= 2;
+        }
+        for at in 0..small.len() {
+            for plain in [0, b'0', b'A'] {
+                let mut other = small.clone();
+                other[at] = plain;
+                if other != small && small[at] != 0 && differs(&other) {
+                    small = other;
+                    break;
+                }
+            }
+        }
+        self.differ(what, &format!("hex {}", hex(&small)), published(&small), ours(&small));
+    }
+
+    /// Both sides on a list of numbers. Where they differ, each number is brought nearer to 0 while they still do.
+    pub fn numbers<A: PartialEq + Debug>(
+        &mut self,
+        what: &str,
+        input: &[i64],
+        published: impl Fn(&[i64]) -> A,
+        ours: impl Fn(&[i64]) -> A,
+    ) {
+        self.inputs += 1;
+        if published(input) == ours(input) {
+            return;
+        }
+        let differs = |s: &[i64]| published(s) != ours(s);
+        let mut small = input.to_vec();
+        for at in 0..small.len() {
+            loop {
+                let now = small[at];
+                let nearer = [0, now / 2, now - now.signum()];
+                let better = nearer.into_iter().filter(|v| v.abs() < now.abs()).find(|&v| {
+                    let mut other = small.clone();
+                    other[at] = v;
+                    differs(&other)
+                });
+                match better {
+                    Some(v) => small[at] = v,
+                    None => break,
+                }
+            }
+        }
+        self.differ(what, &format!("{small:?}"), published(&small), ours(&small));
+    }
+}
+
+/// The recorded answers of one module: lines of words, replayed by the program `NAME_vectors`.
+pub struct Record {
+    name: &'static str,
+    pub rng: Rng,
+    text: String,
+}
+
+impl Record {
+    pub fn new(name: &'static str, seed: u64) -> Self {
+        let text = format!("# The published Rust's answers, written by `oracle record --seed {seed}`.\n");
+        Record { name, rng: Rng::new(seed), text }
+    }
+
+    pub fn line(&mut self, words: &[String]) {
+        self.text += &words.join(" ");
+        self.text.push('\n');
+    }
+
+    /// Writes the list, or, to check, holds the written one against it.
+    pub fn finish(&self, check: bool) {
+        assert!(self.text.len() < 1 << 20, "the replaying program has room for 1 MiB");
+        let crates = Path::new(env!("CARGO_MANIFEST_DIR")).join("../crates");
+        let file = crates.join(format!("{}_vectors", self.name)).join("stdin");
+        let fail = |text: &str| -> ! {
+            println!("oracle: {}_vectors/stdin {text}", self.name);
+            std::process::exit(1)
+        };
+        if !check {
+            std::fs::write(&file, &self.text).unwrap_or_else(|e| fail(&e.to_string()));
+        } else if std::fs::read_to_string(&file).unwrap_or_else(|e| fail(&e.to_string())) != self.text {
+            fail("is not what `oracle record` writes");
+        }
+        println!("{}: {} recorded answers", self.name, self.text.lines().count() - 1);
+    }
+}
+
+/// A digest of answers (FNV-1a, 64 bits), for answers too many to write out.
+pub fn digest(bytes: impl Iterator<Item = u8>) -> u64 {
+    bytes.fold(0xCBF2_9CE4_8422_2325, |h, b| (h ^ b as u64).wrapping_mul(0x0000_0100_0000_01B3))
+}
+
+/// Times of both sides, measured in turn.
+pub struct Bench {
+    rows: Vec<(String, f64, f64)>,
+}
+
+impl Bench {
+    pub fn new() -> Self {
+        Bench { rows: Vec::new() }
+    }
+
+    /// The best time of many rounds, the two sides in turn, each round some milliseconds long.
+    pub fn row<A, B>(&mut self, what: &str, mut published: impl FnMut() -> A, mut ours: impl FnMut() -> B) {
+        fn once<T>(f: &mut impl FnMut() -> T, turns: u32) -> f64 {
+            let start = Instant::now();
+            for _ in 0..turns {
+                black_box(f());
+            }
+            start.elapsed().as_secs_f64() / turns as f64
+        }
+        let mut turns = 1;
+        while once(&mut published, turns) * (turns as f64) < 0.002 && turns < 1 << 24 {
+            turns *= 2;
+        }
+        let (mut a, mut b) = (f64::MAX, f64::MAX);
+        for _ in 0..60 {
+            a = a.min(once(&mut published, turns));
+            b = b.min(once(&mut ours, turns));
+        }
+        self.rows.push((what.to_string(), a, b));
+    }
+
+    pub fn print(&self) {
+        println!("| call | published Rust | library | ratio |\n|---|---|---|---|");
+        for (what, a, b) in &self.rows {
+            println!("| {what} | {} | {} | {:.2} |", time(*a), time(*b), b / a);
+        }
+    }
+}
+
+fn time(seconds: f64) -> String {
+    match seconds {
+        s if s < 1e-6 => format!("{:.1} ns", s * 1e9),
+        s if s < 1e-3 => format!("{:.2} µs", s * 1e6),
+        s => format!("{:.2} ms", s * 1e3),
+    }
+}
