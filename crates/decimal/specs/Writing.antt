@@ -24,6 +24,7 @@ decimal k (suc m) n = cond (ltb n (10 ^ k)) (places k n) (decimal (suc k) m n)
 abbrev pub signByte : Bool → ℕ
 signByte minus = cond minus 0x2D 0x2B
 
+-- is z below zero?
 abbrev pub isNegative : ℤ → Bool
 isNegative (pos n) = false
 isNegative (negsuc n) = true

@@ -30,6 +30,7 @@ wrapsOutBy k.the-variants.Range value steps = wrapsOut steps value
 wrapsOutBy k.the-variants.Gain value steps = false
 wrapsOutBy k.the-variants.Other value steps = false
 
+-- is this item a range of which a number leaves 0..255?
 unfoldable pub rangeWrapsOut : List ℕ → List ℕ → ℤ → Bool
 rangeWrapsOut key value steps = wrapsOutBy (kindOf key) value steps
 
@@ -39,5 +40,6 @@ shiftBy k.the-variants.Range value steps = shiftRange steps value
 shiftBy k.the-variants.Gain value steps = shiftGain steps value
 shiftBy k.the-variants.Other value steps = none
 
+-- the same by the item's key
 unfoldable pub shiftStored : List ℕ → List ℕ → ℤ → Option (List ℕ)
 shiftStored key value steps = shiftBy (kindOf key) value steps
