@@ -8,7 +8,7 @@ ghost use Rattle.lists.specs.Choice.{isSome};
 ghost use Rattle.lists.specs.Write.{over};
 ghost use Rattle.items.specs.Items.{parse, itemsIn};
 ghost use Rattle.ape.specs.Tag.{blockBytes, serialize, moved, split, replaced};
-ghost use Rattle.ape_write.specs.Answers.{tagParts, tagLength, serializePlan, replacePlan, writtenAnswer, writtenBytes, Cuts};
+ghost use Rattle.ape_write.specs.Answers.{tagParts, tagLength, serializePlan, roomPlan, replacePlan, writtenAnswer, writtenBytes, Cuts};
 use ape::Footer;
 use frame::TagStart;
 use replies::Refusal;
@@ -165,6 +165,22 @@ pub fn put_file(file: &[u8], cut: Cut, area: &[u8], count: usize, out: &mut [u8]
     b + m
 }
 
+// The file with its tag replaced by the items of a well-formed area, where there is room for it: refusal 5.
+pub fn replace_items(file: &[u8], area: &[u8], count: usize, out: &mut [u8]) -> Written
+    requires { ⌜ (length (now file) ≤ 16777216) × (isSome (parse count (now area)) ≡ true) ⌝ }
+    ensures { λ r. ⌜ (r ≡ writtenAnswer (roomPlan (now (file .entry)) (itemsIn count (now (area .entry))) (length (now (out .entry))))) × (now (out .exit) ≡ over (writtenBytes (roomPlan (now (file .entry)) (itemsIn count (now (area .entry))) (length (now (out .entry))))) (now (out .entry))) ⌝ }
+{
+    let cut = split_ape_tag(file);
+    let n = file_length(cut, tag_length(area.len(), count));
+    if out.len() < n {
+        return Written::Refused(Refusal::NoRoom);
+    }
+    if replies::FILE_LIMIT < n {
+        return Written::Refused(Refusal::NoRoom);
+    }
+    Written::Done(put_file(file, cut, area, count, out))
+}
+
 // The file with its tag replaced by the items of the area: refusals 1, 12 and 5.
 pub fn replace_ape_tag(file: &[u8], area: &[u8], count: usize, out: &mut [u8]) -> Written
     ensures { λ r. ⌜ (r ≡ writtenAnswer (replacePlan (now (file .entry)) (now (area .entry)) count (length (now (out .entry))))) × (now (out .exit) ≡ over (writtenBytes (replacePlan (now (file .entry)) (now (area .entry)) count (length (now (out .entry))))) (now (out .entry))) ⌝ }
@@ -175,13 +191,5 @@ pub fn replace_ape_tag(file: &[u8], area: &[u8], count: usize, out: &mut [u8]) -
     if !items::well_formed(area, count) {
         return Written::Refused(Refusal::MalformedArea);
     }
-    let cut = split_ape_tag(file);
-    let n = file_length(cut, tag_length(area.len(), count));
-    if out.len() < n {
-        return Written::Refused(Refusal::NoRoom);
-    }
-    if replies::FILE_LIMIT < n {
-        return Written::Refused(Refusal::NoRoom);
-    }
-    Written::Done(put_file(file, cut, area, count, out))
+    replace_items(file, area, count, out)
 }
