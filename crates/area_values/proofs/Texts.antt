@@ -6,8 +6,8 @@ use mathlib.Core.List.{List, _++_}
 use lib.ListN.{length, take, length-append}
 use lib.Seq.{take-at}
 use Rattle.lists.specs.Write.{over}
-use Rattle.number.specs.Writing.{textOf}
-use Rattle.number.specs.declared.Text.{Text}
+use Rattle.decimal.specs.Writing.{textOf}
+use Rattle.decimal.specs.declared.Text.{Text}
 use Rattle.area_edit.specs.Edits.{answer, bytes, setPlan}
 use Rattle.area_edit.specs.declared.Edited.{Edited}
 

@@ -8,14 +8,14 @@ use mir.Val.{SFits}
 use mir.Facts.{toZ-ofZ}
 use lib.ListN.{length, set, length-set}
 use lib.IntN.{natAbs}
-use Rattle.integers.proofs.Sign.{whole-apart}
+use Rattle.number.proofs.Signs.{taken}
 use Rattle.lists.specs.Write.{splice}
 use Rattle.lists.proofs.Wrote.{start, next, done}
-use Rattle.number.specs.Writing.{signed, decimal, signByte, isNegative}
-use Rattle.number.proofs.Lists.{put-one}
-use Rattle.number.proofs.Places.{negative}
-use Rattle.number.proofs.put_signed.Statement.{statement}
-use Rattle.number.proofs.put_signed.Tie as tie
+use Rattle.decimal.specs.Writing.{signed, decimal, signByte, isNegative}
+use Rattle.decimal.proofs.Lists.{put-one}
+use Rattle.decimal.proofs.Places.{negative}
+use Rattle.decimal.proofs.put_signed.Statement.{statement}
+use Rattle.decimal.proofs.put_signed.Tie as tie
 
 -- the size is that of the number
 magnitude-requires : tie.Need-magnitude-requires
@@ -23,7 +23,7 @@ magnitude-requires c κs =
     let t = c .before .before in
     let s = t .before .before in
     let f : SFits w32 (s .args .n) = search needs in
-    rw (t .take-apart .ensures, toZ-ofZ f) (f .sfits)
+    taken (s .args .n) (t .take-apart .result) f (t .take-apart .ensures) .0
 
 put-decimal-requires : tie.Need-put-decimal-requires
 put-decimal-requires c κs = (simp length-set (omega arith), omega arith, refl)
@@ -42,7 +42,7 @@ returns c =
     let n = s .args .n in
     let f : SFits w32 n = search needs in
     let down : t .take-apart .result .down ≡ isNegative n = rw (t .take-apart .ensures, toZ-ofZ f) (negative n) in
-    let size : m .magnitude .result ≡ natAbs n = m .magnitude .ensures ∙ rw (t .take-apart .ensures, toZ-ofZ f) (ap natAbs (whole-apart n)) in
+    let size : m .magnitude .result ≡ natAbs n = m .magnitude .ensures ∙ ap natAbs (taken n (t .take-apart .result) f (t .take-apart .ensures) .1) in
     let sign : b .sign-byte .result ≡ signByte (isNegative n) = b .sign-byte .ensures ∙ ap signByte down in
     let o = s .args .out .now in
     let at = s .args .at in

@@ -4,10 +4,10 @@ use Prim.Native.Nat.{ℕ, suc, _≤_, _<_, _+_, _-_}
 use native.Mathlib.Omega.{arith}
 use borrow.Author.Needs.{needs}
 use lib.ListN.{length, length-set}
-use Rattle.number.specs.Writing.{places}
-use Rattle.number.proofs.Places.{Digits, none-yet, turn, all-written}
-use Rattle.number.proofs.put_places.Statement.{statement}
-use Rattle.number.proofs.put_places.Tie as tie
+use Rattle.decimal.specs.Writing.{places}
+use Rattle.decimal.proofs.Places.{Digits, none-yet, turn, all-written}
+use Rattle.decimal.proofs.put_places.Statement.{statement}
+use Rattle.decimal.proofs.put_places.Tie as tie
 
 abbrev Inv-loop : tie.InvT-loop
 Inv-loop out₀ at k n rest₀ i₀ out rest i = (i ≤ k) × (length out ≡ length out₀) × Digits out₀ at k n i rest out

@@ -3,9 +3,9 @@ use Prim.Native.Nat.{ℕ, _≤_, _+_}
 use native.Mathlib.Omega.{arith}
 use borrow.Author.Needs.{needs}
 use lib.ListN.{length}
-use Rattle.number.proofs.Places.{length-places}
-use Rattle.number.proofs.put_decimal.Statement.{statement}
-use Rattle.number.proofs.put_decimal.Tie as tie
+use Rattle.decimal.proofs.Places.{length-places}
+use Rattle.decimal.proofs.put_decimal.Statement.{statement}
+use Rattle.decimal.proofs.put_decimal.Tie as tie
 
 returns : tie.Need-returns
 returns c =

@@ -13,12 +13,12 @@ use lib.IntN.{ℤ, pos, negsuc, natAbs}
 use lib.Signed.{mag, natAbs-le}
 use borrow.Author.Tests.{eq-eqb, le-leb, lt-leb, lt-ltb, ltb-false, ltb-true, ne-eqb}
 use Rattle.lists.specs.Bytes.{all, among}
 use Rattle.number.specs.Trim.{isSpace, trimLeft, keep, trimRight, trim}
 use Rattle.number.specs.Fields.{before, behind}
 use Rattle.number.specs.Reading.{isDigit, digitsFrom, natural, isMinus, unsigned, whole, i32, u8}
-use Rattle.number.specs.Writing.{places, decimal, signed}
+use Rattle.decimal.specs.Writing.{places, decimal, signed}
 use Rattle.number.proofs.Digits.{natural-is}
-use Rattle.number.proofs.Places.{length-places}
+use Rattle.decimal.proofs.Places.{length-places}
 
 -- ---- digits and signs: no space, no comma, no point
 

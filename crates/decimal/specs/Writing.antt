@@ -7,8 +7,8 @@ use lib.ListN.{length, replicate}
 use lib.Dec.{ltb}
 use lib.IntN.{ℤ, pos, negsuc, natAbs}
 use Rattle.lists.specs.Write.{over}
-use Rattle.number.specs.declared.Text.{Text}
-use Rattle.number.specs.declared.Shifted.{Shifted}
+use Rattle.decimal.specs.declared.Text.{Text}
+use Rattle.decimal.specs.declared.Shifted.{Shifted}
 
 -- the last k digits of n
 unfoldable pub places : ℕ → ℕ → List ℕ
@@ -24,6 +24,7 @@ decimal k (suc m) n = cond (ltb n (10 ^ k)) (places k n) (decimal (suc k) m n)
 abbrev pub signByte : Bool → ℕ
 signByte minus = cond minus 0x2D 0x2B
 
+-- is z below zero?
 abbrev pub isNegative : ℤ → Bool
 isNegative (pos n) = false
 isNegative (negsuc n) = true

@@ -14,9 +14,9 @@ use lib.Signed.{mag, ltZ}
 use borrow.Author.Tests.{lt-ltb, le-ltb}
 use Rattle.lists.specs.Write.{splice}
 use Rattle.lists.proofs.Wrote.{Wrote, start, from-start}
-use Rattle.number.specs.Writing.{places, decimal, isNegative, textOf}
-use Rattle.number.specs.declared.Text.{Text}
-use Rattle.number.proofs.Lists.{put-before}
+use Rattle.decimal.specs.Writing.{places, decimal, isNegative, textOf}
+use Rattle.decimal.specs.declared.Text.{Text}
+use Rattle.decimal.proofs.Lists.{put-before}
 
 pub length-places : (k n : ℕ) → length (places k n) ≡ k
 unfolding places

@@ -5,10 +5,10 @@ use native.Mathlib.Omega.{arith}
 use native.Mathlib.Numerals.{add-one}
 use native.Mathlib.Nat.{pow-suc}
 use borrow.Author.Needs.{needs}
-use Rattle.number.specs.Writing.{decimal}
-use Rattle.number.proofs.Places.{decimal-stop, decimal-next, decimal-end}
-use Rattle.number.proofs.width.Statement.{statement}
-use Rattle.number.proofs.width.Tie as tie
+use Rattle.decimal.specs.Writing.{decimal}
+use Rattle.decimal.proofs.Places.{decimal-stop, decimal-next, decimal-end}
+use Rattle.decimal.proofs.width.Statement.{statement}
+use Rattle.decimal.proofs.width.Tie as tie
 
 abbrev Inv-loop : tie.InvT-loop
 Inv-loop n least most past number p₀ k₀ p k =
