@@ -1,0 +1,4 @@
+pub mod Lists
+pub mod Sound
+pub mod Reading
+pub mod Settled
