@@ -1,0 +1,4 @@
+pub mod Texts
+pub mod Items
+pub mod Levels
+pub mod Calls
