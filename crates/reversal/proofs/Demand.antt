@@ -23,7 +23,7 @@ use Rattle.ape.specs.Tag.{split, fileOf}
 use Rattle.calls.specs.Gate.{itemsOf}
 use Rattle.calls.specs.Calls.{Level, Levelled, adjusted, storedUndo, levelItems, isThere, others, levelTests, levelGives, levelPlan, undoPlan}
 use Rattle.calls.specs.Book.{settled, Edit, keyOf, editItems, editPlan, Book, bookOf, bookFile, feed}
-use Rattle.calls.specs.Run.{Call, level, edit, State, Side, onLeft, onRight, stepOn, gainsOn, levelTo, editTo, outcome, isYes, after, accepts, next, run, acceptedLevels, acceptedEdits, editsAlone, fed, bookAfter, Wrapped, Landed}
+use Rattle.calls.specs.Run.{Call, level, edit, State, Side, onLeft, onRight, stepOn, gainsOn, levelTo, editTo, outcome, isYes, after, accepts, next, run, levelIf, acceptedLevels, acceptedEdits, editsAlone, fed, bookAfter, WrapsIf, LandsIf, Wrapped, Landed}
 use Rattle.book.proofs.Sound.{Sound}
 use Rattle.book.proofs.Reading.{law-items}
 use Rattle.book.proofs.Settled.{settled-sound, settled-book}
@@ -261,10 +261,6 @@ gains-accepted side s l room t = go side
     go onLeft = ap (λ (x : State). x .left) there ∙ ap (λ (o : Levelled). o .left) (sym same)
     go onRight = ap (λ (x : State). x .right) there ∙ ap (λ (o : Levelled). o .right) (sym same)
 
-gain-accepted : (m : GainMode) (side : Side) (i : ℕ) (s : State) (l : Level) (room : ℕ) → accepts s (level l room) ≡ true → l .mode ≡ m
-    → i < length (gainsOn side s) → getD (gainsOn side (next s (level l room))) i 0 ≡ adjust m (stepOn side l) (getD (gainsOn side s) i 0)
-gain-accepted m side i s l room t e h = rw (gains-accepted side s l room t, getD-map (adjust (l .mode) (stepOn side l)) (gainsOn side s) i h, e)
-
 gains-edited : (side : Side) (s : State) (e : Edit) → gainsOn side (next s (edit e)) ≡ gainsOn side s
 unfolding next outcome
 gains-edited side s e = go (editPlan (s .file) e) side
@@ -274,65 +270,59 @@ gains-edited side s e = go (editPlan (s .file) e) side
     go (yes w) onLeft = refl
     go (yes w) onRight = refl
 
--- wrapped, said of the accepted calls
+-- a gain after a call of mode m
+abbrev gainIf : GainMode → Bool → Call → Side → ℕ → ℕ
+gainIf m true (level l room) side g = adjust m (stepOn side l) g
+gainIf m true (edit e) side g = g
+gainIf m false c side g = g
+
+gain-edit : (m : GainMode) (t : Bool) (e : Edit) (side : Side) (g : ℕ) → gainIf m t (edit e) side g ≡ g
+gain-edit m true e side g = refl
+gain-edit m false e side g = refl
+
+-- where the call stands in front of accepted calls that all have the mode m
+gain-next : (m : GainMode) (side : Side) (i : ℕ) (s : State) (c : Call) (ls : List Level) → AllOf m (levelIf (accepts s c) c ++ ls) → i < length (gainsOn side s)
+    → (getD (gainsOn side (next s c)) i 0 ≡ gainIf m (accepts s c) c side (getD (gainsOn side s) i 0)) × (i < length (gainsOn side (next s c)))
+unfolding AllOf
+gain-next m side i s (level l room) ls a h = go (accepts s (level l room)) refl a
+  where
+    go : (t : Bool) → accepts s (level l room) ≡ t → AllOf m (levelIf t (level l room) ++ ls)
+        → (getD (gainsOn side (next s (level l room))) i 0 ≡ gainIf m (accepts s (level l room)) (level l room) side (getD (gainsOn side s) i 0))
+          × (i < length (gainsOn side (next s (level l room))))
+    go true t (e, _) =
+        rw (t, gains-accepted side s l room t) (getD-map (adjust (l .mode) (stepOn side l)) (gainsOn side s) i h ∙ rw e, rw length-map h)
+    go false t a = rw (t, refused-stays s (level l room) t) (refl, h)
+gain-next m side i s (edit e) ls a h =
+    (ap (λ gs. getD gs i 0) (gains-edited side s e) ∙ sym (gain-edit m (accepts s (edit e)) e side (getD (gainsOn side s) i 0)), rw (gains-edited side s e) h)
+
+-- wrapped and landed, said of the accepted calls
+wraps-one : (t : Bool) (c : Call) (ls : List Level) (W : Type 0) → W ↔ AllOf Wrapping ls → (WrapsIf t c × W) ↔ AllOf Wrapping (levelIf t c ++ ls)
+unfolding AllOf
+wraps-one true (level l room) ls W ih = (λ (a, b). (a, ih .0 b), λ (a, b). (a, ih .1 b))
+wraps-one true (edit e) ls W ih = (λ (a, b). ih .0 b, λ b. (tt, ih .1 b))
+wraps-one false c ls W ih = (λ (a, b). ih .0 b, λ b. (tt, ih .1 b))
+
 wrapped-all : (s : State) (cs : List Call) → Wrapped s cs ↔ AllOf Wrapping (acceptedLevels s cs)
 unfolding Wrapped AllOf acceptedLevels
 wrapped-all s [] = (λ x. x, λ x. x)
-wrapped-all s (level l room ∷ cs) = go (accepts s (level l room)) refl (wrapped-all (next s (level l room)) cs)
-  where
-    go : (t : Bool) → accepts s (level l room) ≡ t
-        → Wrapped (next s (level l room)) cs ↔ AllOf Wrapping (acceptedLevels (next s (level l room)) cs)
-        → Wrapped s (level l room ∷ cs) ↔ AllOf Wrapping (acceptedLevels s (level l room ∷ cs))
-    go true t ih = rw t (λ (a, b). (a, ih .0 b), λ (a, b). (a, ih .1 b))
-    go false t ih = rw t (λ (a, b). ih .0 b, λ b. (tt, ih .1 b))
-wrapped-all s (edit e ∷ cs) = go (accepts s (edit e)) refl (wrapped-all (next s (edit e)) cs)
-  where
-    go : (t : Bool) → accepts s (edit e) ≡ t
-        → Wrapped (next s (edit e)) cs ↔ AllOf Wrapping (acceptedLevels (next s (edit e)) cs)
-        → Wrapped s (edit e ∷ cs) ↔ AllOf Wrapping (acceptedLevels s (edit e ∷ cs))
-    go true t ih = rw t (λ (a, b). ih .0 b, λ b. (tt, ih .1 b))
-    go false t ih = rw t (λ (a, b). ih .0 b, λ b. (tt, ih .1 b))
+wrapped-all s (c ∷ cs) = wraps-one (accepts s c) c (acceptedLevels (next s c) cs) (Wrapped (next s c) cs) (wrapped-all (next s c) cs)
 
--- landed, said of the accepted calls
+lands-one : (m : GainMode) (side : Side) (g : ℕ) (t : Bool) (c : Call) (ls : List Level) (L : Type 0) → AllOf m (levelIf t c ++ ls)
+    → (AllOf m ls → L ↔ InRange m (steps side ls) (gainIf m t c side g)) → (LandsIf t c side g × L) ↔ InRange m (steps side (levelIf t c ++ ls)) g
+unfolding AllOf InRange steps
+lands-one m side g true (level l room) ls L (e, a) ih = (λ (x, y). (x, ih a .0 y), λ (x, y). (x, ih a .1 y))
+lands-one m side g true (edit e) ls L a ih = (λ (x, y). ih a .0 y, λ y. (tt, ih a .1 y))
+lands-one m side g false c ls L a ih = (λ (x, y). ih a .0 y, λ y. (tt, ih a .1 y))
+
 landed-range : (m : GainMode) (side : Side) (i : ℕ) (s : State) (cs : List Call) → AllOf m (acceptedLevels s cs) → i < length (gainsOn side s)
     → Landed side i s cs ↔ InRange m (steps side (acceptedLevels s cs)) (getD (gainsOn side s) i 0)
-unfolding Landed InRange AllOf acceptedLevels steps
+unfolding Landed InRange acceptedLevels steps
 landed-range m side i s [] a h = (λ x. x, λ x. x)
-landed-range m side i s (level l room ∷ cs) a h = go (accepts s c) refl a (landed-range m side i (next s c) cs)
-  where
-    c : Call
-    c = level l room
-
-    go : (t : Bool) → accepts s c ≡ t → AllOf m (acceptedLevels s (c ∷ cs))
-        → (AllOf m (acceptedLevels (next s c) cs) → i < length (gainsOn side (next s c))
-        → Landed side i (next s c) cs ↔ InRange m (steps side (acceptedLevels (next s c) cs)) (getD (gainsOn side (next s c)) i 0))
-        → Landed side i s (c ∷ cs) ↔ InRange m (steps side (acceptedLevels s (c ∷ cs))) (getD (gainsOn side s) i 0)
-    go true t a ih =
-        let (e, a′) = rw t at a in
-        let q = gain-accepted m side i s l room t e h in
-        let r = ih a′ (rw (gains-accepted side s l room t, length-map) h) in
-        rw t (λ (x, y). (x, rw q at (r .0 y)), λ (x, y). (x, r .1 (rw q y)))
-    go false t a ih =
-        let a′ : AllOf m (acceptedLevels (next s c) cs) = rw t at a in
-        let r = ih a′ (rw (refused-stays s c t) h) in
-        rw t (λ (x, y). rw (ap (gainsOn side) (refused-stays s c t)) at (r .0 y), λ y. (tt, r .1 (rw (ap (gainsOn side) (refused-stays s c t)) y)))
-landed-range m side i s (edit e ∷ cs) a h = go (accepts s c) refl a (landed-range m side i (next s c) cs)
-  where
-    c : Call
-    c = edit e
-
-    go : (t : Bool) → accepts s c ≡ t → AllOf m (acceptedLevels s (c ∷ cs))
-        → (AllOf m (acceptedLevels (next s c) cs) → i < length (gainsOn side (next s c))
-        → Landed side i (next s c) cs ↔ InRange m (steps side (acceptedLevels (next s c) cs)) (getD (gainsOn side (next s c)) i 0))
-        → Landed side i s (c ∷ cs) ↔ InRange m (steps side (acceptedLevels s (c ∷ cs))) (getD (gainsOn side s) i 0)
-    go true t a ih =
-        let a′ : AllOf m (acceptedLevels (next s c) cs) = rw t at a in
-        let r = ih a′ (rw (gains-edited side s e) h) in
-        rw t (λ (x, y). rw (gains-edited side s e) at (r .0 y), λ y. (tt, r .1 (rw (gains-edited side s e) y)))
-    go false t a ih =
-        let a′ : AllOf m (acceptedLevels (next s c) cs) = rw t at a in
-        let r = ih a′ (rw (gains-edited side s e) h) in
-        rw t (λ (x, y). rw (gains-edited side s e) at (r .0 y), λ y. (tt, r .1 (rw (gains-edited side s e) y)))
+landed-range m side i s (c ∷ cs) a h =
+    let ls : List Level = acceptedLevels (next s c) cs in
+    let (q, l) = gain-next m side i s c ls a h in
+    lands-one m side (getD (gainsOn side s) i 0) (accepts s c) c ls (Landed side i (next s c) cs) a
+    (λ a′. subst (λ (g : ℕ). Landed side i (next s c) cs ↔ InRange m (steps side ls) g) q (landed-range m side i (next s c) cs a′ l))
 
 -- ---- the theorem
 
