@@ -24,7 +24,7 @@ use Rattle.ape.specs.Tag.{blockBytes, headerFlags, footerFlags, tagBytes, seria
 use Rattle.ape.specs.declared.Footer.{Footer}
 use Rattle.ape.specs.declared.Footer.the-variants.{At, Nowhere}
 use Rattle.calls.specs.Gate.{fit, allValid, gateItems, passesGate, itemsOf}
-use Rattle.book.proofs.Lists.{both}
+use Rattle.calls.proofs.Lists.{both}
 use Rattle.book.proofs.Sound.{Back, bare, id3, Good, Sound}
 
 -- ---- the footer

@@ -26,8 +26,8 @@ use Rattle.ape.specs.declared.Footer.{Footer}
 use Rattle.ape.specs.declared.Footer.the-variants.{At, Nowhere}
 use Rattle.ape.proofs.Files.{stands-long, footer-within}
 use Rattle.calls.specs.Gate.{hasStart, countsFooter, isVersion2, countFits, areaFits, fit, allValid, gateItems, passesGate, itemsOf}
-use Rattle.calls.specs.Book.{settled, Book, bookOf, bookFile}
-use Rattle.book.proofs.Lists.{both, and-of, cond-some, provided-some}
+use Rattle.book.specs.Book.{settled, Book, bookOf, bookFile}
+use Rattle.calls.proofs.Lists.{both, and-of, cond-some, provided-some}
 use Rattle.book.proofs.Sound.{Back, bare, id3, Good, Sound}
 use Rattle.book.proofs.Reading.{law-split, law-gate, law-passes, law-items, law-replaced, law-read, asRead}
 

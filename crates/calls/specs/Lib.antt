@@ -1,4 +1,2 @@
 pub mod Gate
 pub mod Calls
-pub mod Book
-pub mod Run

@@ -5,7 +5,7 @@ use mathlib.Core.Path.{_≡_, refl, sym, ap, _∙_}
 use mathlib.Core.Bool.{Bool, true, false, _&&_, cond}
 use mathlib.Core.Option.{Option, none, some, Option·map, Option·getD}
 use mathlib.Core.List.{List, [], _∷_, _++_}
-use lib.ListN.{length}
+use lib.ListN.{length, length-append}
 use lib.Dec.{leb}
 use lib.IntN.{ℤ}
 use borrow.Author.Tests.{leb-true, le-leb}
@@ -34,20 +34,19 @@ use Rattle.keys.specs.Keys.{upper, upperAll, sameKey, isMp3gainKey, isUndone, u
 use Rattle.keys.proofs.Keys.{same-caseless, from-caseless, undone-eight, undo-eight, not-undo, printable-whole, printable-upper, key-printable}
 use Rattle.values.specs.Undo.{formatUndo}
 use Rattle.values.specs.Range.{formatRange}
-use Rattle.items.specs.Items.{Item, areaBytes, getItem, setItem, without, removeItem}
-use Rattle.items.proofs.Area.{AllSane}
+use Rattle.items.specs.Items.{Item, itemBytes, areaBytes, getItem, setItem, without, removeItem}
+use Rattle.items.proofs.Area.{length-item}
 use Rattle.items.proofs.ItemLaws.{get-set-same, get-set-other, get-without, set-outside, set-inside, without-without, without-less, count-without, area-without, sane-without, sane-set}
-use Rattle.ape.specs.Tag.{fileOf, replaced}
+use Rattle.ape.specs.Tag.{tagBytes, serialize, fileOf, replaced}
 use Rattle.ape.specs.Answers.{lentFits, roomFor, hasRoom}
 use Rattle.calls.specs.Gate.{allValid, passesGate, itemsOf, tagFits}
 use Rattle.calls.specs.Calls.{Level, Levelled, adjusted, storedUndo, agrees, booked, numbersFit, wraps, sameStep, shiftStoredGain, shiftedItems, levelItems, rangeOf, countOf, isPeakKey, isThere, stepsFit, others, undoneLeft, undoneRight, setPlan, removePlan, levelPlan, undoPlan}
-use Rattle.calls.specs.Book.{Edit, set, remove, keyOf, editItems, editPlan}
-use Rattle.calls.specs.Run.{onLeft, onRight}
-use Rattle.book.proofs.Lists.{both, and-of}
+use Rattle.calls.proofs.Lists.{both, and-of}
 use Rattle.book.proofs.Sound.{Good, Sound}
-use Rattle.book.proofs.Reading.{law-passes, law-items, law-replaced}
-use Rattle.reversal.proofs.Texts.{plain-valid, plain-undo, plain-range}
-use Rattle.reversal.proofs.Items.{not-by-undo, file-le, valid-without, valid-set, good-without, shift-others, shift-valid, shift-sane}
+use Rattle.book.proofs.Reading.{length-block, law-passes, law-items, law-replaced}
+use Rattle.calls.proofs.Texts.{plain-valid}
+use Rattle.calls.proofs.Items.{not-by-undo, valid-without, valid-set, key-facts, level-others, level-sane, level-valid}
+use Rattle.reversal.specs.Run.{Edit, set, remove, keyOf, editItems, editPlan, onLeft, onRight}
 use Rattle.reversal.proofs.Levels.{Undo, readUndo, undoIn, bookedBy, booked-is, undo-back, undoneBy}
 
 -- ---- tests as numbers
@@ -70,10 +69,36 @@ tag-of : (ts : List Item) → length ts ≤ countLimit → length (areaBytes ts)
 unfolding tagFits
 tag-of ts p q = and-of (le-leb (length ts) countLimit p) (le-leb (length (areaBytes ts)) areaLimit q)
 
+-- ---- sizes
+
+length-tag : (ts : List Item) → length (tagBytes ts) ≡ length (areaBytes ts) + 64
+unfolding tagBytes
+length-tag ts = simp (length-append, length-block) (omega arith)
+
+serialize-le : (as′ bs : List Item) → length (areaBytes as′) ≤ length (areaBytes bs) → length (serialize as′) ≤ length (serialize bs)
+unfolding serialize areaBytes
+serialize-le [] bs h = omega arith
+serialize-le (a ∷ as′) [] h = absurd (omega (arith, length-append (itemBytes a) (areaBytes as′), length-item a))
+serialize-le (a ∷ as′) (b ∷ bs) h = omega (arith, length-tag (a ∷ as′), length-tag (b ∷ bs))
+
+-- fewer item bytes, no longer file
+file-le : (front : List ℕ) (as′ bs : List Item) (back : List ℕ) → length (areaBytes as′) ≤ length (areaBytes bs)
+    → length (fileOf front as′ back) ≤ length (fileOf front bs back)
+unfolding fileOf
+file-le front as′ bs back h = simp length-append (omega (arith, serialize-le as′ bs h))
+
 -- ---- a sound book with other items
 
 pub with-items : {front back : List ℕ} {ts : List Item} → Sound front ts back → (new : List Item) → Good new → Sound front new back
 with-items s new g = record { behind = s .behind; no-footer = s .no-footer; no-id3 = s .no-id3; good = g }
+
+good-without : (p : List ℕ → Bool) (ts : List Item) → Good ts → Good (without p ts)
+good-without p ts g = record {
+  sane = sane-without p ts (g .sane);
+  valid = valid-without p ts (g .valid);
+  few = omega (arith, count-without p ts, g .few);
+  small = omega (arith, area-without p ts, g .small);
+}
 
 pub sound-without : (front back : List ℕ) (ts : List Item) → Sound front ts back → (p : List ℕ → Bool) → Sound front (without p ts) back
 sound-without front back ts s p = with-items s (without p ts) (good-without p ts (s .good))
@@ -202,61 +227,11 @@ edit-fewer front back ts e n p =
 
 -- ---- level
 
-key-facts : (sameKey undoKey minmaxKey ≡ false) × (all printable (upperAll undoKey) ≡ true) × (all printable (upperAll minmaxKey) ≡ true)
-unfolding sameKey same upperAll upper undoKey minmaxKey all
-key-facts = (refl, refl, refl)
-
-module _ (l : Level) (ts : List Item) where
-  shifted-others : others (shiftedItems l ts) ≡ others ts
-  unfolding shiftedItems
-  shifted-others = go (sameStep (l .left) (l .right)) refl
-    where
-      go : (a : Bool) → sameStep (l .left) (l .right) ≡ a → others (shiftedItems l ts) ≡ others ts
-      go true e = rw e (shift-others (l .mode) (l .left) ts)
-      go false e = rw e (unfold others in without-less isMp3gainKey isUndone ts undone-eight)
-
-  shifted-sane : AllSane ts → AllSane (shiftedItems l ts)
-  unfolding shiftedItems
-  shifted-sane s = go (sameStep (l .left) (l .right)) refl
-    where
-      go : (a : Bool) → sameStep (l .left) (l .right) ≡ a → AllSane (shiftedItems l ts)
-      go true e = rw e (shift-sane (l .mode) (l .left) ts s)
-      go false e = rw e (sane-without isUndone ts s)
-
-  shifted-valid : allValid ts ≡ true → allValid (shiftedItems l ts) ≡ true
-  unfolding shiftedItems
-  shifted-valid v = go (sameStep (l .left) (l .right)) refl
-    where
-      go : (a : Bool) → sameStep (l .left) (l .right) ≡ a → allValid (shiftedItems l ts) ≡ true
-      go true e = rw e (shift-valid (l .mode) (l .left) ts v)
-      go false e = rw e (valid-without isUndone ts v)
-
-  module _ (gs : List ℕ) where
-    -- level changes nothing beside the eight keys
-    pub level-others : others (levelItems l ts gs) ≡ others ts
-    unfolding levelItems others
-    level-others =
-        set-inside isMp3gainKey (from-caseless 0) minmaxKey _ _ (undo-eight .1)
-        ∙ set-inside isMp3gainKey (from-caseless 0) undoKey _ _ (undo-eight .0)
-        ∙ shifted-others
-
-    -- and what it books is read back
-    pub level-stored : numbersFit (booked l ts) ≡ true → undoIn (levelItems l ts gs) ≡ some (bookedBy (undoIn ts) l)
-    unfolding undoIn storedUndo levelItems bookedBy
-    level-stored n =
-        rw (get-set-other undoKey minmaxKey _ _ (key-facts .0), get-set-same) (ap some (undo-back (booked l ts) (l .mode) n ∙ rw (booked-is l ts)))
-
-    pub level-sane : AllSane ts → AllSane (levelItems l ts gs)
-    unfolding levelItems
-    level-sane s =
-        sane-set minmaxKey _ _ (printable-whole (upperAll minmaxKey) (key-facts .2))
-        (sane-set undoKey _ _ (printable-whole (upperAll undoKey) (key-facts .1)) (shifted-sane s))
-
-    pub level-valid : allValid ts ≡ true → allValid (levelItems l ts gs) ≡ true
-    unfolding levelItems
-    level-valid v =
-        valid-set minmaxKey _ _ (plain-valid (upperAll minmaxKey) (key-facts .2)) (plain-valid _ (plain-range (rangeOf gs)))
-        (valid-set undoKey _ _ (plain-valid (upperAll undoKey) (key-facts .1)) (plain-valid _ (plain-undo ((booked l ts) .left) ((booked l ts) .right) (wraps (l .mode)))) (shifted-valid v))
+-- what level books is read back
+pub level-stored : (l : Level) (ts : List Item) (gs : List ℕ) → numbersFit (booked l ts) ≡ true → undoIn (levelItems l ts gs) ≡ some (bookedBy (undoIn ts) l)
+unfolding undoIn storedUndo levelItems bookedBy
+level-stored l ts gs n =
+    rw (get-set-other undoKey minmaxKey _ _ (key-facts .0), get-set-same) (ap some (undo-back (booked l ts) (l .mode) n ∙ rw (booked-is l ts)))
 
 -- what an accepted level call says; new: its items
 pub record LevelPasses (front : List ℕ) (ts new : List Item) (back left : List ℕ) (l : Level) : Type 0 where

@@ -22,15 +22,15 @@ use Rattle.items.specs.Items.{Item}
 use Rattle.ape.specs.Tag.{split, fileOf}
 use Rattle.calls.specs.Gate.{itemsOf}
 use Rattle.calls.specs.Calls.{Level, Levelled, adjusted, storedUndo, levelItems, isThere, others, levelTests, levelGives, levelPlan, undoPlan}
-use Rattle.calls.specs.Book.{settled, Edit, keyOf, editItems, editPlan, Book, bookOf, bookFile, feed}
-use Rattle.calls.specs.Run.{Call, level, edit, State, Side, onLeft, onRight, stepOn, gainsOn, levelTo, editTo, outcome, isYes, after, accepts, next, run, levelIf, acceptedLevels, acceptedEdits, editsAlone, fed, bookAfter, WrapsIf, LandsIf, Wrapped, Landed}
+use Rattle.book.specs.Book.{Book, bookOf, bookFile}
+use Rattle.reversal.specs.Run.{Edit, keyOf, editItems, editPlan, feed, Call, level, edit, State, Side, onLeft, onRight, stepOn, gainsOn, levelTo, editTo, outcome, isYes, after, accepts, next, run, levelIf, acceptedLevels, acceptedEdits, editsAlone, fed, bookAfter, WrapsIf, LandsIf, Wrapped, Landed}
 use Rattle.book.proofs.Sound.{Sound}
 use Rattle.book.proofs.Reading.{law-items}
 use Rattle.book.proofs.Settled.{settled-sound, settled-book}
 use Rattle.reversal.specs.Demand.{Apart, undoAfter, undoneOn, Given, Restored, Demand3}
-use Rattle.reversal.proofs.Items.{none-dropped, none-got}
+use Rattle.calls.proofs.Items.{none-dropped, none-got, level-others}
 use Rattle.reversal.proofs.Levels.{Undo, undoIn, bookedBy, Fair, fair, Desk, gains, levelDesk, undoneBy, steps, AllOf, Chain, perform, Reversed, performed}
-use Rattle.reversal.proofs.Calls.{sound-without, EditPasses, edit-passes, edit-accepted, edit-sound, edit-others, edit-stored, edit-fewer, LevelPasses, gainsTo, level-others, level-stored, level-passes, level-gives, level-sound, Undone, undo-gives}
+use Rattle.reversal.proofs.Calls.{sound-without, EditPasses, edit-passes, edit-accepted, edit-sound, edit-others, edit-stored, edit-fewer, LevelPasses, gainsTo, level-stored, level-passes, level-gives, level-sound, Undone, undo-gives}
 
 -- the state's file is the book's file with more items, all of them of the eight keys
 pub record Holds (b : Book) (s : State) : Type 0 where
@@ -288,7 +288,7 @@ gain-next m side i s (level l room) ls a h = go (accepts s (level l room)) refl 
   where
     go : (t : Bool) → accepts s (level l room) ≡ t → AllOf m (levelIf t (level l room) ++ ls)
         → (getD (gainsOn side (next s (level l room))) i 0 ≡ gainIf m (accepts s (level l room)) (level l room) side (getD (gainsOn side s) i 0))
-          × (i < length (gainsOn side (next s (level l room))))
+        × (i < length (gainsOn side (next s (level l room))))
     go true t (e, _) =
         rw (t, gains-accepted side s l room t) (getD-map (adjust (l .mode) (stepOn side l)) (gainsOn side s) i h ∙ rw e, rw length-map h)
     go false t a = rw (t, refused-stays s (level l room) t) (refl, h)

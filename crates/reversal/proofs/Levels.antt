@@ -22,9 +22,9 @@ use Rattle.values.specs.declared.UndoValues.{UndoValues}
 use Rattle.values.specs.Undo.{formatUndo, parseUndo, undoWraps, sat32, accumulated}
 use Rattle.items.specs.Items.{Item}
 use Rattle.calls.specs.Calls.{Level, storedUndo, agrees, booked, isUndoNumber, numbersFit, wraps}
-use Rattle.calls.specs.Run.{Side, onLeft, onRight, stepOn}
-use Rattle.book.proofs.Lists.{both}
-use Rattle.reversal.proofs.Texts.{flag-written, numbers-written}
+use Rattle.reversal.specs.Run.{Side, onLeft, onRight, stepOn}
+use Rattle.calls.proofs.Lists.{both}
+use Rattle.calls.proofs.Texts.{flag-written, numbers-written}
 
 -- ---- an undo item as numbers
 

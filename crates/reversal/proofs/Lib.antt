@@ -1,5 +1,3 @@
-pub mod Texts
-pub mod Items
 pub mod Levels
 pub mod Calls
 pub mod Demand

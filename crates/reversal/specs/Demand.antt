@@ -10,8 +10,8 @@ use Rattle.replies.specs.Refusal.{Plan, yes}
 use Rattle.keys.specs.Keys.{isMp3gainKey}
 use Rattle.calls.specs.Gate.{itemsOf}
 use Rattle.calls.specs.Calls.{Levelled, countOf, undoPlan}
-use Rattle.calls.specs.Book.{keyOf, settled, bookFile}
-use Rattle.calls.specs.Run.{Call, level, edit, State, Side, onLeft, onRight, gainsOn, run, acceptedLevels, acceptedEdits, editsAlone, bookAfter, Wrapped, Landed}
+use Rattle.book.specs.Book.{settled, bookFile}
+use Rattle.reversal.specs.Run.{keyOf, Call, level, edit, State, Side, onLeft, onRight, gainsOn, run, acceptedLevels, acceptedEdits, editsAlone, bookAfter, Wrapped, Landed}
 
 -- the list's edits name none of the eight keys in any letter case
 unfoldable pub Apart : List Call → Type 0

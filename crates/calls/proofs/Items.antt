@@ -1,37 +1,33 @@
 -- Laws of the items that calls leave: what they make of other keys, and that they stay good.
-use Prim.Native.Nat.{ℕ, zero, suc, _+_, _≤_, _<_}
+use Prim.Native.Nat.{ℕ, _+_}
 use native.Mathlib.Omega.{arith}
 use mathlib.Core.Path.{_≡_, refl, sym, ap, _∙_}
 use mathlib.Core.Bool.{Bool, true, false, _&&_, cond, true≢false}
 use mathlib.Core.Option.{Option, none, some, Option·map, Option·getD}
 use mathlib.Core.List.{List, [], _∷_, _++_, map}
-use lib.ListN.{length, length-append}
 use lib.Dec.{leb}
 use lib.IntN.{ℤ}
 use borrow.Author.Tests.{le-leb}
-use Rattle.lists.specs.Bytes.{placeOf}
+use Rattle.lists.specs.Bytes.{all, same}
 use Rattle.lists.specs.Choice.{found}
 use Rattle.frame.specs.declared.GainMode.{GainMode}
 use Rattle.frame.specs.declared.GainMode.the-variants.{Saturating, Wrapping}
 use Rattle.utf8.specs.Utf8.{valid}
-use Rattle.keys.specs.Keys.{upperAll, sameKey, whichKey, isFrom, isMp3gainKey, undoKey}
-use Rattle.keys.proofs.Keys.{key-sym, not-undo}
+use Rattle.keys.specs.Keys.{upper, upperAll, sameKey, whichKey, isFrom, isMp3gainKey, isUndone, undoKey, minmaxKey, printable}
+use Rattle.keys.proofs.Keys.{key-sym, from-caseless, undone-eight, undo-eight, not-undo, printable-whole}
 use Rattle.decibels.specs.Gain.{parseGain, shiftGain}
 use Rattle.decibels.specs.declared.Millionths.{Millionths}
 use Rattle.decibels.proofs.ReadBack.{plain-gain}
 use Rattle.values.specs.Range.{parseRange, shiftRange, wrapsOut}
 use Rattle.values.specs.Stored.{isRange, isGain, rangeWrapsOut, shiftStored}
 use Rattle.values.specs.declared.Range.{Range}
-use Rattle.items.specs.Items.{Item, itemBytes, areaBytes, getItem, setItem, without}
-use Rattle.items.proofs.Area.{AllSane, length-item}
-use Rattle.items.proofs.ItemLaws.{sane-without, sane-set, count-without, area-without}
-use Rattle.ape.specs.Tag.{blockBytes, tagBytes, serialize, fileOf}
+use Rattle.items.specs.Items.{Item, getItem, setItem, without}
+use Rattle.items.proofs.Area.{AllSane}
+use Rattle.items.proofs.ItemLaws.{set-inside, without-less, sane-without, sane-set}
 use Rattle.calls.specs.Gate.{allValid}
-use Rattle.calls.specs.Calls.{staying, shiftItem, shiftStoredGain, others, countOf}
-use Rattle.book.proofs.Lists.{both, and-of}
-use Rattle.book.proofs.Sound.{Good}
-use Rattle.book.proofs.Reading.{length-block}
-use Rattle.reversal.proofs.Texts.{plain-valid, plain-range}
+use Rattle.calls.specs.Calls.{Level, staying, shiftItem, shiftStoredGain, booked, wraps, rangeOf, sameStep, shiftedItems, levelItems, countOf, others}
+use Rattle.calls.proofs.Lists.{both, and-of}
+use Rattle.calls.proofs.Texts.{plain-valid, plain-undo, plain-range}
 
 -- ---- items of none of the eight keys
 
@@ -62,24 +58,6 @@ none-got (t ∷ ts) e = go (isMp3gainKey (t .key)) refl e (none-got ts)
     go true q e ih = absurd (omega arith)
     go false q e ih = rw (not-by-undo (t .key) q) (ih (omega arith))
 
--- ---- sizes
-
-length-tag : (ts : List Item) → length (tagBytes ts) ≡ length (areaBytes ts) + 64
-unfolding tagBytes
-length-tag ts = simp (length-append, length-block) (omega arith)
-
-serialize-le : (as′ bs : List Item) → length (areaBytes as′) ≤ length (areaBytes bs) → length (serialize as′) ≤ length (serialize bs)
-unfolding serialize areaBytes
-serialize-le [] bs h = omega arith
-serialize-le (a ∷ as′) [] h = absurd (omega (arith, length-append (itemBytes a) (areaBytes as′), length-item a))
-serialize-le (a ∷ as′) (b ∷ bs) h = omega (arith, length-tag (a ∷ as′), length-tag (b ∷ bs))
-
--- fewer item bytes, no longer file
-pub file-le : (front : List ℕ) (as′ bs : List Item) (back : List ℕ) → length (areaBytes as′) ≤ length (areaBytes bs)
-    → length (fileOf front as′ back) ≤ length (fileOf front bs back)
-unfolding fileOf
-file-le front as′ bs back h = simp length-append (omega (arith, serialize-le as′ bs h))
-
 -- ---- UTF-8
 
 pub valid-without : (p : List ℕ → Bool) (ts : List Item) → allValid ts ≡ true → allValid (without p ts) ≡ true
@@ -102,14 +80,6 @@ valid-set key value (t ∷ ts) k v h = go (sameKey key (t .key)) refl (valid-set
         let (a, c) = both (valid (t .key) && valid (t .value)) (allValid ts) h in
         rw q (and-of (and-of (both (valid (t .key)) (valid (t .value)) a .0) v) c)
     go false q ih = let (a, c) = both (valid (t .key) && valid (t .value)) (allValid ts) h in rw q (and-of a (ih c))
-
-pub good-without : (p : List ℕ → Bool) (ts : List Item) → Good ts → Good (without p ts)
-good-without p ts g = record {
-  sane = sane-without p ts (g .sane);
-  valid = valid-without p ts (g .valid);
-  few = omega (arith, count-without p ts, g .few);
-  small = omega (arith, area-without p ts, g .small);
-}
 
 -- ---- the shift of stored values: it touches only items of the eight keys
 
@@ -225,3 +195,55 @@ staying-sane Wrapping z (t ∷ ts) (s, r) = go (rangeWrapsOut (t .key) (t .value
 pub shift-sane : (m : GainMode) (z : ℤ) (ts : List Item) → AllSane ts → AllSane (shiftStoredGain m z ts)
 unfolding shiftStoredGain
 shift-sane m z ts s = map-sane z (staying m z ts) (staying-sane m z ts s)
+
+-- ---- the items that level leaves
+
+pub key-facts : (sameKey undoKey minmaxKey ≡ false) × (all printable (upperAll undoKey) ≡ true) × (all printable (upperAll minmaxKey) ≡ true)
+unfolding sameKey same upperAll upper undoKey minmaxKey all
+key-facts = (refl, refl, refl)
+
+module _ (l : Level) (ts : List Item) where
+  shifted-others : others (shiftedItems l ts) ≡ others ts
+  unfolding shiftedItems
+  shifted-others = go (sameStep (l .left) (l .right)) refl
+    where
+      go : (a : Bool) → sameStep (l .left) (l .right) ≡ a → others (shiftedItems l ts) ≡ others ts
+      go true e = rw e (shift-others (l .mode) (l .left) ts)
+      go false e = rw e (unfold others in without-less isMp3gainKey isUndone ts undone-eight)
+
+  shifted-sane : AllSane ts → AllSane (shiftedItems l ts)
+  unfolding shiftedItems
+  shifted-sane s = go (sameStep (l .left) (l .right)) refl
+    where
+      go : (a : Bool) → sameStep (l .left) (l .right) ≡ a → AllSane (shiftedItems l ts)
+      go true e = rw e (shift-sane (l .mode) (l .left) ts s)
+      go false e = rw e (sane-without isUndone ts s)
+
+  shifted-valid : allValid ts ≡ true → allValid (shiftedItems l ts) ≡ true
+  unfolding shiftedItems
+  shifted-valid v = go (sameStep (l .left) (l .right)) refl
+    where
+      go : (a : Bool) → sameStep (l .left) (l .right) ≡ a → allValid (shiftedItems l ts) ≡ true
+      go true e = rw e (shift-valid (l .mode) (l .left) ts v)
+      go false e = rw e (valid-without isUndone ts v)
+
+  module _ (gs : List ℕ) where
+    -- level changes nothing beside the eight keys
+    pub level-others : others (levelItems l ts gs) ≡ others ts
+    unfolding levelItems others
+    level-others =
+        set-inside isMp3gainKey (from-caseless 0) minmaxKey _ _ (undo-eight .1)
+        ∙ set-inside isMp3gainKey (from-caseless 0) undoKey _ _ (undo-eight .0)
+        ∙ shifted-others
+
+    pub level-sane : AllSane ts → AllSane (levelItems l ts gs)
+    unfolding levelItems
+    level-sane s =
+        sane-set minmaxKey _ _ (printable-whole (upperAll minmaxKey) (key-facts .2))
+        (sane-set undoKey _ _ (printable-whole (upperAll undoKey) (key-facts .1)) (shifted-sane s))
+
+    pub level-valid : allValid ts ≡ true → allValid (levelItems l ts gs) ≡ true
+    unfolding levelItems
+    level-valid v =
+        valid-set minmaxKey _ _ (plain-valid (upperAll minmaxKey) (key-facts .2)) (plain-valid _ (plain-range (rangeOf gs)))
+        (valid-set undoKey _ _ (plain-valid (upperAll undoKey) (key-facts .1)) (plain-valid _ (plain-undo ((booked l ts) .left) ((booked l ts) .right) (wraps (l .mode)))) (shifted-valid v))
