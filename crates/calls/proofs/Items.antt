@@ -19,7 +19,8 @@ use Rattle.decibels.specs.Gain.{parseGain, shiftGain}
 use Rattle.decibels.specs.declared.Millionths.{Millionths}
 use Rattle.decibels.proofs.ReadBack.{plain-gain}
 use Rattle.values.specs.Range.{parseRange, shiftRange, wrapsOut}
-use Rattle.values.specs.Stored.{isRange, isGain, rangeWrapsOut, shiftStored}
+use Rattle.values.specs.declared.Kind as k
+use Rattle.values.specs.Stored.{isRange, isGain, kindOf, wrapsOutBy, rangeWrapsOut, shiftBy, shiftStored}
 use Rattle.values.specs.declared.Range.{Range}
 use Rattle.items.specs.Items.{Item, getItem, setItem, without}
 use Rattle.items.proofs.Area.{AllSane}
@@ -84,10 +85,12 @@ valid-set key value (t ∷ ts) k v h = go (sameKey key (t .key)) refl (valid-set
 -- ---- the shift of stored values: it touches only items of the eight keys
 
 out-eight : (z : ℤ) (key value : List ℕ) → rangeWrapsOut key value z ≡ true → isMp3gainKey key ≡ true
-unfolding rangeWrapsOut isFrom
+unfolding rangeWrapsOut kindOf isFrom
 out-eight z key value e = go (whichKey key) e
   where
-    go : (o : Option ℕ) → found o false (λ i. isRange i && wrapsOut z value) ≡ true → found o false (λ i. leb 0 i) ≡ true
+    go : (o : Option ℕ)
+        → wrapsOutBy (found o k.the-variants.Other (λ i. cond (isRange i) k.the-variants.Range (cond (isGain i) k.the-variants.Gain k.the-variants.Other))) value z ≡ true
+        → found o false (λ i. leb 0 i) ≡ true
     go none e = e
     go (some i) e = le-leb 0 i (omega arith)
 
@@ -103,7 +106,7 @@ staying-others Wrapping z (t ∷ ts) = go (rangeWrapsOut (t .key) (t .value) z) 
 
 -- an item of another key stays as it is
 shift-other : (z : ℤ) (t : Item) → isMp3gainKey (t .key) ≡ false → shiftItem z t ≡ t
-unfolding shiftItem shiftStored isFrom
+unfolding shiftItem shiftStored kindOf isFrom
 shift-other z t e = go (whichKey (t .key)) refl e
   where
     go : (o : Option ℕ) → whichKey (t .key) ≡ o → found o false (λ i. leb 0 i) ≡ false → shiftItem z t ≡ t
@@ -143,16 +146,12 @@ gain-valid z s v = go (parseGain s) refl
 
 value-valid : (z : ℤ) (key s : List ℕ) → valid s ≡ true → valid (Option·getD (shiftStored key s z) s) ≡ true
 unfolding shiftStored
-value-valid z key s v = go (whichKey key)
+value-valid z key s v = go (kindOf key)
   where
-    pick : (a b : Bool) → valid (Option·getD (cond a (shiftRange z s) (cond b (shiftGain z s) none)) s) ≡ true
-    pick true b = range-valid z s v
-    pick false true = gain-valid z s v
-    pick false false = v
-
-    go : (o : Option ℕ) → valid (Option·getD (found o none (λ i. cond (isRange i) (shiftRange z s) (cond (isGain i) (shiftGain z s) none))) s) ≡ true
-    go none = v
-    go (some i) = pick (isRange i) (isGain i)
+    go : (kind : k.Kind) → valid (Option·getD (shiftBy kind s z) s) ≡ true
+    go k.the-variants.Range = range-valid z s v
+    go k.the-variants.Gain = gain-valid z s v
+    go k.the-variants.Other = v
 
 map-valid : (z : ℤ) (ts : List Item) → allValid ts ≡ true → allValid (map (shiftItem z) ts) ≡ true
 unfolding shiftItem allValid

@@ -14,8 +14,8 @@ use Rattle.utf8.proofs.Laws.{valid-plain}
 use Rattle.keys.specs.Keys.{upper, upperAll, sameKey}
 use Rattle.number.specs.Fields.{before, behind, field}
 use Rattle.number.specs.Trim.{isSpace, trimLeft, keep, trimRight, trim}
-use Rattle.number.specs.Writing.{places, signed}
-use Rattle.number.proofs.ReadBack.{marks-places, marks-signed, before-marks, behind-marks, comma, i32-signed, Plain, plain-before, plain-marks}
+use Rattle.decimal.specs.Writing.{places, signed}
+use Rattle.decimal.proofs.ReadBack.{marks-places, marks-signed, before-marks, behind-marks, comma, i32-signed, Plain, plain-before, plain-marks}
 use Rattle.values.specs.Undo.{flagByte, formatUndo, parseUndo, undoWraps}
 use Rattle.values.specs.Range.{formatRange}
 use Rattle.values.specs.declared.Range.{Range}
