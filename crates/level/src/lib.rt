@@ -22,11 +22,7 @@ pub enum LevelAnswer {
 
 // What the first undo item of an area says.
 pub enum StoredUndo {
-    Steps {
-        left: i32,
-        right: i32,
-        wrap: bool,
-    },
+    Steps { left: i32, right: i32, wrap: bool },
     Nothing,
 }
 
@@ -56,5 +52,41 @@ pub fn stored_undo(area: &[u8], count: usize) -> StoredUndo
         left: u.left,
         right: u.right,
         wrap: values::parse_undo_wrap(text),
+    }
+}
+
+// Every gain moved back by the stored numbers, and the file without the eight keys: refusals 1, 7, 8, 10 and 5. The reply is decided before the
+// first gain changes.
+pub fn undo(file: &[u8], left: &mut [u8], right: &mut [u8], out: &mut [u8]) -> LevelAnswer
+    ensures { λ r. ⌜ (r ≡ levelAnswer (undoPlan (now (file .entry)) (now (left .entry)) (now (right .entry)) (length (now (out .entry))))) × (now (out .exit) ≡ over (levelBytes (undoPlan (now (file .entry)) (now (left .entry)) (now (right .entry)) (length (now (out .entry))))) (now (out .entry))) × (now (left .exit) ≡ leftAfter (undoPlan (now (file .entry)) (now (left .entry)) (now (right .entry)) (length (now (out .entry)))) (now (left .entry))) × (now (right .exit) ≡ rightAfter (undoPlan (now (file .entry)) (now (left .entry)) (now (right .entry)) (length (now (out .entry)))) (now (right .entry))) ⌝ }
+{
+    if replies::FILE_LIMIT < file.len() {
+        return LevelAnswer::Refused(Refusal::FileTooLong);
+    }
+    if left.len() == 0 {
+        return LevelAnswer::Refused(Refusal::NoLeftGains);
+    }
+    let g = edit::gate(file);
+    let Editable::Items { start, end, count } = g else {
+        return LevelAnswer::Refused(Refusal::NotEditable);
+    };
+    let u = stored_undo(&file[start..end], count);
+    let StoredUndo::Steps {
+        left: left_steps,
+        right: right_steps,
+        wrap,
+    } = u
+    else {
+        return LevelAnswer::Refused(Refusal::NoUndo);
+    };
+    let w = edit::drop_items(file, start, end, count, Drop::Mp3gain, b"", out);
+    let Written::Done(n) = w else {
+        return LevelAnswer::Refused(Refusal::NoRoom);
+    };
+    adjust_gains(left, GainSteps(left_steps), GainMode::from_wrap(wrap));
+    adjust_gains(right, GainSteps(right_steps), GainMode::from_wrap(wrap));
+    LevelAnswer::Done {
+        length: n,
+        peaks: 0,
     }
 }
