@@ -1,18 +1,18 @@
 -- What level writes is ASCII, so UTF-8; and an undo text that it writes is read back.
-use Prim.Native.Nat.{ℕ, _≤_, _<_}
+use Prim.Native.Nat.{ℕ, _<_}
 use native.Mathlib.Omega.{arith}
-use mathlib.Core.Path.{_≡_, refl, sym, ap, _∙_}
+use mathlib.Core.Path.{_≡_, refl}
 use mathlib.Core.Bool.{Bool, true, false, and-eq-true-iff}
 use mathlib.Core.List.{List, [], _∷_, _++_}
 use lib.IntN.{ℤ}
-use lib.Dec.{leb, ltb}
+use lib.Dec.{leb}
 use lib.Signed.{mag}
 use borrow.Author.Tests.{leb-true, lt-ltb}
 use Rattle.lists.specs.Bytes.{ascii, among, all, same}
 use Rattle.utf8.specs.Utf8.{plain, valid}
 use Rattle.utf8.proofs.Laws.{valid-plain}
 use Rattle.keys.specs.Keys.{upper, upperAll, sameKey}
-use Rattle.number.specs.Fields.{before, behind, field}
+use Rattle.number.specs.Fields.{before, field}
 use Rattle.number.specs.Trim.{isSpace, trimLeft, keep, trimRight, trim}
 use Rattle.number.specs.Writing.{places, signed}
 use Rattle.number.proofs.ReadBack.{marks-places, marks-signed, before-marks, behind-marks, comma, i32-signed, Plain, plain-before, plain-marks}
