@@ -2,9 +2,10 @@
 use Prim.Native.Nat.{ℕ, zero, suc, _+_, _≤_, _<_}
 use native.Mathlib.Omega.{arith}
 use mathlib.Core.Path.{_≡_, refl, sym, ap, _∙_}
-use mathlib.Core.Bool.{Bool, true, false}
+use mathlib.Core.Bool.{Bool, true, false, cond}
 use mathlib.Core.List.{List, [], _∷_, _++_}
 use lib.ListN.{length, length-append}
+use lib.Dec.{eqb}
 use borrow.Author.Tests.{eq-eqb, ne-eqb}
 use Rattle.lists.specs.Bytes.{Small}
 use Rattle.lists.specs.Choice.{isSome}
@@ -44,3 +45,10 @@ module _ (area : List ℕ) (count : ℕ) (bytes : Small area) (good : isSome (pa
       go : (n : ℕ) → count ≡ n → length (serialize (itemsIn count area)) ≡ tagLength (length area) count
       go zero e = rw (serialize-none e, eq-eqb _ _ e)
       go (suc n) e = rw (serialize-parts (omega arith), ne-eqb count 0 (omega arith)) (length-parts area count)
+
+pub tag-most : (n count : ℕ) → tagLength n count ≤ n + 64
+tag-most n count = go (eqb count 0)
+  where
+    go : (t : Bool) → cond t 0 (n + 64) ≤ n + 64
+    go true = omega arith
+    go false = omega arith

@@ -9,7 +9,7 @@ use Rattle.lists.specs.Choice.{isSome}
 use Rattle.lists.specs.Write.{part}
 use Rattle.replies.specs.Refusal.{Test, need, refusalOf, Plan, no, yes, planned}
 use Rattle.replies.specs.declared.Refusal.the-variants.{MalformedArea}
-use Rattle.items.specs.Items.{parse, itemsIn}
+use Rattle.items.specs.Items.{Item, parse, itemsIn}
 use Rattle.ape.specs.Tag.{Split, blockBytes, headerFlags, footerFlags, serialize, replaced}
 use Rattle.ape.specs.Answers.{lentFits, roomFor}
 use Rattle.ape_write.specs.declared.Written.{Written}
@@ -44,6 +44,10 @@ unfoldable pub serializePlan : List ℕ → ℕ → ℕ → Plan (List ℕ)
 serializePlan area count room =
     let w = serialize (itemsIn count area) in
     planned (refusalOf (areaFits count area ∷ roomFor room w ∷ [])) w
+
+-- the file with its tag replaced by these items, if there is room
+unfoldable pub roomPlan : List ℕ → List Item → ℕ → Plan (List ℕ)
+roomPlan file ts room = planned (refusalOf (roomFor room (replaced file ts) ∷ [])) (replaced file ts)
 
 -- replace_ape_tag
 unfoldable pub replacePlan : List ℕ → List ℕ → ℕ → ℕ → Plan (List ℕ)

@@ -8,7 +8,7 @@ ghost use Rattle.lists.specs.Choice.{isSome};
 ghost use Rattle.lists.specs.Write.{over};
 ghost use Rattle.items.specs.Items.{parse, itemsIn};
 ghost use Rattle.ape.specs.Tag.{blockBytes, serialize, moved, split, replaced};
-ghost use Rattle.ape_write.specs.Answers.{tagParts, tagLength, serializePlan, replacePlan, writtenAnswer, writtenBytes, Cuts};
+ghost use Rattle.ape_write.specs.Answers.{tagParts, tagLength, serializePlan, roomPlan, replacePlan, writtenAnswer, writtenBytes, Cuts};
 use ape::Footer;
 use frame::TagStart;
 use replies::Refusal;
@@ -97,4 +97,99 @@ pub fn serialize_ape_tag(area: &[u8], count: usize, out: &mut [u8]) -> Written
         return Written::Refused(Refusal::NoRoom);
     }
     Written::Done(put_tag(out, area, count))
+}
+
+// The audio that ends at `end`, with nothing behind it: an ID3v1 block at its end moves behind the tag.
+fn cut_audio(file: &[u8], end: usize) -> Cut
+    requires { ⌜ end ≤ length (now file) ⌝ }
+    ensures { λ r. ⌜ Cuts (moved (take end (now (file .entry))) []) (now (file .entry)) (r .front) (r .from) (r .to) ⌝ }
+{
+    if frame::ends_with_id3v1(&file[0..end]) {
+        let front = end - 128;
+        return Cut {
+            front,
+            from: front,
+            to: end,
+        };
+    }
+    Cut {
+        front: end,
+        from: end,
+        to: end,
+    }
+}
+
+// Where a file is cut: around its tag, or where one would be put.
+pub fn split_ape_tag(file: &[u8]) -> Cut
+    ensures { λ r. ⌜ Cuts (split (now (file .entry))) (now (file .entry)) (r .front) (r .from) (r .to) ⌝ }
+{
+    let found = ape::find_footer(file);
+    let Footer::At(footer) = found else {
+        return cut_audio(file, file.len());
+    };
+    let s = frame::ape_tag_start(file, footer);
+    let TagStart::At(start) = s else {
+        return cut_audio(file, file.len());
+    };
+    let rest = footer + 32;
+    if rest < file.len() {
+        return Cut {
+            front: start,
+            from: rest,
+            to: file.len(),
+        };
+    }
+    cut_audio(file, start)
+}
+
+// How long the file is that has this tag in place of its own: what precedes it, the tag, and what follows.
+pub fn file_length(cut: Cut, tag: usize) -> usize
+    requires { ⌜ (cut .front ≤ 16777216) × (cut .from ≤ cut .to) × (cut .to ≤ 16777216) × (tag ≤ 9223372036854775871) ⌝ }
+    ensures { λ r. ⌜ r ≡ cut .front + tag + (cut .to - cut .from) ⌝ }
+{
+    cut.front + tag + (cut.to - cut.from)
+}
+
+// Writes the file with the tag of this area's items to the front of `out`, each part into the rest of it, and answers its length.
+pub fn put_file(file: &[u8], cut: Cut, area: &[u8], count: usize, out: &mut [u8]) -> usize
+    requires { ⌜ (Cuts (split (now file)) (now file) (cut .front) (cut .from) (cut .to)) × (isSome (parse count (now area)) ≡ true) × (length (replaced (now file) (itemsIn count (now area))) ≤ 16777216) × (length (replaced (now file) (itemsIn count (now area))) ≤ length (now out)) ⌝ }
+    ensures { λ r. ⌜ (r ≡ length (replaced (now (file .entry)) (itemsIn count (now (area .entry))))) × (now (out .exit) ≡ over (replaced (now (file .entry)) (itemsIn count (now (area .entry)))) (now (out .entry))) ⌝ }
+{
+    let front = cut.front;
+    let from = cut.from;
+    let to = cut.to;
+    let a = lists::put_part(out, 0, file, 0, front);
+    let n = put_tag(&mut out[a..], area, count);
+    let b = a + n;
+    let m = lists::put_part(&mut out[b..], 0, file, from, to);
+    b + m
+}
+
+// The file with its tag replaced by the items of a well-formed area, where there is room for it: refusal 5.
+pub fn replace_items(file: &[u8], area: &[u8], count: usize, out: &mut [u8]) -> Written
+    requires { ⌜ (length (now file) ≤ 16777216) × (isSome (parse count (now area)) ≡ true) ⌝ }
+    ensures { λ r. ⌜ (r ≡ writtenAnswer (roomPlan (now (file .entry)) (itemsIn count (now (area .entry))) (length (now (out .entry))))) × (now (out .exit) ≡ over (writtenBytes (roomPlan (now (file .entry)) (itemsIn count (now (area .entry))) (length (now (out .entry))))) (now (out .entry))) ⌝ }
+{
+    let cut = split_ape_tag(file);
+    let n = file_length(cut, tag_length(area.len(), count));
+    if out.len() < n {
+        return Written::Refused(Refusal::NoRoom);
+    }
+    if replies::FILE_LIMIT < n {
+        return Written::Refused(Refusal::NoRoom);
+    }
+    Written::Done(put_file(file, cut, area, count, out))
+}
+
+// The file with its tag replaced by the items of the area: refusals 1, 12 and 5.
+pub fn replace_ape_tag(file: &[u8], area: &[u8], count: usize, out: &mut [u8]) -> Written
+    ensures { λ r. ⌜ (r ≡ writtenAnswer (replacePlan (now (file .entry)) (now (area .entry)) count (length (now (out .entry))))) × (now (out .exit) ≡ over (writtenBytes (replacePlan (now (file .entry)) (now (area .entry)) count (length (now (out .entry))))) (now (out .entry))) ⌝ }
+{
+    if replies::FILE_LIMIT < file.len() {
+        return Written::Refused(Refusal::FileTooLong);
+    }
+    if !items::well_formed(area, count) {
+        return Written::Refused(Refusal::MalformedArea);
+    }
+    replace_items(file, area, count, out)
 }

@@ -96,11 +96,15 @@ module _ (p : List ℕ → Bool) where
         go none e = rw (e, ← parse-end s at within, e)
         go (some ts) e = rw (e, ← parse-end s at within, e, parse-none (drop at s) ts e) (rw (add-zero, add-zero))
 
-    pub measure-end : at ≡ length s → measured s at 0 n size ≡ Size n size
-    measure-end e = last ∙ rw (eq-eqb at (length s) e)
+    module _ (left : ℕ) (z : left ≡ 0) where
+      none-left : measured s at left n size ≡ measured s at 0 n size
+      none-left = ap (λ (i : ℕ). measured s at i n size) z
 
-    pub measure-behind : (at ≡ length s → ⊥) → measured s at 0 n size ≡ Malformed
-    measure-behind e = last ∙ rw (ne-eqb at (length s) e)
+      pub measure-end : at ≡ length s → measured s at left n size ≡ Size n size
+      measure-end e = none-left ∙ last ∙ rw (eq-eqb at (length s) e)
+
+      pub measure-behind : (at ≡ length s → ⊥) → measured s at left n size ≡ Malformed
+      measure-behind e = none-left ∙ last ∙ rw (ne-eqb at (length s) e)
 
   -- ---- the loop that writes
 

@@ -54,23 +54,25 @@ bytes (yes ts) = areaBytes ts
 
 -- ---- the calls
 
+-- refusals 12, 3, 4 and 5
 abbrev pub setPlan : List ℕ → List ℕ → ℕ → List ℕ → ℕ → Plan (List Item)
 setPlan key value n s room = edited (need BadKey (isKey key) ∷ need NotUtf8 (valid value) ∷ []) (setItem key value) n s room
 
+-- refusals 12, 3 and 5
 abbrev pub removePlan : List ℕ → ℕ → List ℕ → ℕ → Plan (List Item)
-removePlan key n s room = edited (need BadKey (isKey key) ∷ []) (without (sameKey key)) n s room
+removePlan key n s room = edited (need BadKey (isKey key) ∷ []) (removeItem key) n s room
 
--- the items whose keys pass the test go
+-- the items whose keys pass the test go; refusals 12 and 5
 abbrev pub dropPlan : (List ℕ → Bool) → ℕ → List ℕ → ℕ → Plan (List Item)
 dropPlan p n s room = edited [] (without p) n s room
-
--- ---- the bytes that set writes
 
 -- the search found the area malformed
 abbrev pub isMalformed : Place → Bool
 isMalformed (At start stop end) = false
 isMalformed Nowhere = false
 isMalformed BadArea = true
+
+-- ---- the bytes that set writes
 
 -- s with another value in the item from a to e, whose key ends at k
 unfoldable pub replaced : List ℕ → ℕ → ℕ → ℕ → List ℕ → List ℕ

@@ -1,2 +1,3 @@
 pub mod FrameFace
 pub mod Utf8Face
+pub mod ApeFace

@@ -2,5 +2,6 @@
 //
 // A reply is 0, or the number of a refusal in document 01's table. Results beyond the reply go into lent numbers. A refused call
 // changes nothing that it was lent.
+mod ape_face;
 mod frame_face;
 mod utf8_face;

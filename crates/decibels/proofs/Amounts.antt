@@ -6,7 +6,7 @@ use mathlib.Core.Bool.{Bool, true, false, not}
 use lib.IntN.{ℤ, pos, negsuc, negℤ, natAbs, _-ℤ_, _*ℤ_}
 use Rattle.integers.proofs.Parts.{up, down, neg-up, neg-down}
 use Rattle.number.specs.Reading.{withSign}
-use Rattle.number.specs.Writing.{isNegative}
+use Rattle.decimal.specs.Writing.{isNegative}
 use Rattle.number.proofs.Signs.{differ}
 use Rattle.decibels.specs.Gain.{amount, signOr, stepsToDb, stepUnits, exact, units}
 use Rattle.decibels.specs.declared.Millionths.{Millionths}

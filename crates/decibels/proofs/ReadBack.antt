@@ -11,9 +11,9 @@ use lib.Seq.{take-at, drop-at}
 use borrow.Author.Tests.{le-leb}
 use Rattle.lists.specs.Bytes.{ascii, all, same}
 use Rattle.number.specs.Reading.{isMinus, unsigned}
-use Rattle.number.specs.Writing.{places, decimal, signByte}
-use Rattle.number.proofs.Places.{length-places}
-use Rattle.number.proofs.ReadBack.{Mark, marks-decimal, marks-places, before-marks, behind-marks, natural-places, natural-decimal, length-decimal, digits-at-most, Plain, plain-before}
+use Rattle.decimal.specs.Writing.{places, decimal, signByte}
+use Rattle.decimal.proofs.Places.{length-places}
+use Rattle.decimal.proofs.ReadBack.{Mark, marks-decimal, marks-places, before-marks, behind-marks, natural-places, natural-decimal, length-decimal, digits-at-most, Plain, plain-before}
 use Rattle.decibels.specs.Gain.{fraction, millionths, parseGain, formatGain}
 use Rattle.decibels.specs.declared.Millionths.{Millionths}
 

@@ -10,7 +10,7 @@ use Rattle.lists.specs.Bytes.{ascii, same}
 use Rattle.lists.specs.Choice.{found}
 use Rattle.number.specs.Fields.{before, behind}
 use Rattle.number.specs.Reading.{natural, isMinus, unsigned, withSign}
-use Rattle.number.specs.Writing.{places, decimal, signByte}
+use Rattle.decimal.specs.Writing.{places, decimal, signByte}
 use Rattle.decibels.specs.declared.Millionths.{Millionths}
 use Rattle.decibels.specs.declared.Count as c
 use Rattle.decibels.specs.declared.GainField as g
@@ -21,6 +21,7 @@ use Rattle.decibels.specs.declared.GainField as g
 abbrev pub units : Millionths → ℕ
 units a = a .1 * 1000000000 + a .2
 
+-- the amount in units, with its sign
 abbrev pub exact : Millionths → ℤ
 exact a = withSign (a .0) (units a)
 
@@ -82,10 +83,12 @@ shiftGain steps s = Option·map (λ g. formatGain (nearest (remaining steps g)))
 
 -- ---- answers of the code
 
+-- a count of millionths, as the code answers it
 abbrev pub countIs : Option ℕ → c.Count
 countIs none = c.the-variants.Nothing
 countIs (some n) = c.the-variants.Value n
 
+-- a gain text read, as the code answers it
 abbrev pub gainIs : Option Millionths → g.GainField
 gainIs none = g.the-variants.Nothing
 gainIs (some a) = g.the-variants.Value a

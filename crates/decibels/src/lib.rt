@@ -1,13 +1,13 @@
 // Gain texts and decibels. Every amount is exact until it is rounded to a millionth.
+use decimal::Shifted;
+use decimal::Text;
 use frame::GainSteps;
 use number::Natural;
-use number::Shifted;
-use number::Text;
 ghost use mathlib.Core.Path.{_≡_};
 ghost use Prim.Native.Nat.{_+_, _*_, _≤_, _<_};
 ghost use lib.IntN.{_-ℤ_};
 ghost use Rattle.number.specs.Reading.{withSign, naturalOf};
-ghost use Rattle.number.specs.Writing.{textOf, shiftedIs};
+ghost use Rattle.decimal.specs.Writing.{textOf, shiftedIs};
 ghost use Rattle.decibels.specs.Gain as G;
 
 // An amount of decibels: whether it is below zero, how many millionths it has, and how many thousand-millionths of one more.
@@ -142,13 +142,13 @@ fn format_gain(a: Millionths) -> Text
     ensures { λ r. ⌜ r ≡ textOf (G.formatGain a) ⌝ }
 {
     let mut bytes = [0u8; 32];
-    let sign = [number::sign_byte(a.0)];
+    let sign = [decimal::sign_byte(a.0)];
     let p = lists::put(&mut bytes, 0, &sign);
     let whole = a.1 / 1000000;
-    let q = number::put_decimal(&mut bytes, p, whole as u32, 1, 10, 10);
+    let q = decimal::put_decimal(&mut bytes, p, whole as u32, 1, 10, 10);
     let r = lists::put(&mut bytes, q, b".");
     let part = a.1 % 1000000;
-    let s = number::put_places(&mut bytes, r, 6, part as u32);
+    let s = decimal::put_places(&mut bytes, r, 6, part as u32);
     let len = lists::put(&mut bytes, s, b" dB");
     Text { bytes, len }
 }
@@ -158,7 +158,7 @@ pub fn shift_gain(text: &[u8], steps: GainSteps) -> Shifted
     ensures { λ r. ⌜ r ≡ shiftedIs (G.shiftGain (steps .0) (now (text .entry))) ⌝ }
 {
     let GainField::Value(g) = parse_gain(text) else {
-        return number::as_found();
+        return decimal::as_found();
     };
     let left = subtract(g, steps_to_db(steps));
     Shifted {

@@ -6,7 +6,7 @@ use mathlib.Core.Bool.{Bool, true, false, _&&_}
 use mathlib.Core.List.{List, [], _∷_, _++_}
 use lib.ListN.{length, drop, length-append, length-drop}
 use lib.Seq.{drop-append-le, drop-append-add}
-use lib.Dec.{leb}
+use lib.Dec.{leb, ltb}
 use borrow.Author.Tests.{leb-true, leb-false, le-leb, lt-leb, lt-ltb, le-ltb}
 use Rattle.lists.specs.Bytes.{startsWith}
 use Rattle.lists.proofs.Same.{starts-append}
@@ -69,3 +69,16 @@ module _ (f size flags : ℕ) where
   start-headed b l h =
       let e : f + 32 - (size + 32) ≡ f + 32 - size - 32 = omega arith in
       rw (le-leb 0x80000000 flags b, le-ltb (f + 32) (size + 32) (omega arith), e)
+
+-- a start lies in the file
+pub start-within : (s : List ℕ) (f a : ℕ) → tagStart s f ≡ At a → (a ≤ f + 32) × (f + 32 ≤ length s)
+unfolding tagStart startOf
+start-within s f a e = go (leb (f + 32) (length s)) (ltb (f + 32) (reach (readU32 s (f + 12)) (readU32 s (f + 20)))) refl refl
+  where
+    go : (t u : Bool) → leb (f + 32) (length s) ≡ t → ltb (f + 32) (reach (readU32 s (f + 12)) (readU32 s (f + 20))) ≡ u → (a ≤ f + 32) × (f + 32 ≤ length s)
+    go true true p q = let x : Nowhere ≡ At a = rw (p, q) at e in absurd (let z : _≡_ {A = ℕ} 0 1 = cc in omega arith)
+    go true false p q =
+        let x : At (f + 32 - reach (readU32 s (f + 12)) (readU32 s (f + 20))) ≡ At a = rw (p, q) at e in
+        let y : f + 32 - reach (readU32 s (f + 12)) (readU32 s (f + 20)) ≡ a = cc in
+        (omega arith, leb-true _ _ p)
+    go false u p q = let x : Nowhere ≡ At a = rw p at e in absurd (let z : _≡_ {A = ℕ} 0 1 = cc in omega arith)

@@ -2,15 +2,15 @@
 use Prim.Native.Nat.{ℕ, zero, suc, _+_, _≤_, _<_}
 use native.Mathlib.Omega.{arith}
 use mathlib.Core.Path.{_≡_, refl, sym, ap, _∙_}
-use mathlib.Core.Bool.{Bool, true, false, cond, true≢false}
+use mathlib.Core.Bool.{Bool, true, false, _||_, cond, true≢false}
 use mathlib.Core.Option.{Option, none, some, Option·map}
 use mathlib.Core.List.{List, [], _∷_, _++_}
 use lib.ListN.{length, take, drop, length-append}
 use lib.Dec.{eqb}
 use Rattle.lists.specs.Bytes.{placeOf}
 use Rattle.lists.specs.Choice.{found}
-use Rattle.keys.specs.Keys.{upperAll, sameKey, isMp3gainKey, isKey}
-use Rattle.keys.proofs.Keys.{key-sym, key-upper, length-upper, Caseless, same-caseless, from-caseless, printable-whole, printable-upper, key-printable}
+use Rattle.keys.specs.Keys.{upperAll, sameKey, isMp3gainKey, isUndone, undoKey, minmaxKey, isKey}
+use Rattle.keys.proofs.Keys.{key-sym, key-upper, length-upper, Caseless, same-caseless, from-caseless, eight-are, printable-whole, printable-upper, key-printable}
 use Rattle.items.specs.Items.{Item, itemBytes, areaBytes, sizeOf, Head, plainHead, parse, itemsIn, getItem, setItem, without, removeItem}
 use Rattle.items.proofs.Area.{AllSane, whole, plain, length-item, length-area}
 
@@ -100,6 +100,24 @@ without-less p q (t ∷ ts) h = go (q (t .key)) refl (without-less p q ts h)
     go true e ih = rw (e, h (t .key) e) ih
     go false e ih = rw (e, ih)
 
+-- two droppings are one
+pub without-or : (p q : List ℕ → Bool) (ts : List Item) → without p (without q ts) ≡ without (λ k. q k || p k) ts
+unfolding without
+without-or p q [] = refl
+without-or p q (t ∷ ts) = go (q (t .key)) (p (t .key)) refl refl (without-or p q ts)
+  where
+    go : (a b : Bool) → q (t .key) ≡ a → p (t .key) ≡ b → without p (without q ts) ≡ without (λ k. q k || p k) ts
+        → without p (without q (t ∷ ts)) ≡ without (λ k. q k || p k) (t ∷ ts)
+    go true b e f ih = rw e ih
+    go false true e f ih = rw (e, f) ih
+    go false false e f ih = rw (e, f, ih)
+
+-- tests that agree drop the same
+pub without-same : (p q : List ℕ → Bool) → ((k : List ℕ) → p k ≡ q k) → (ts : List Item) → without p ts ≡ without q ts
+unfolding without
+without-same p q h [] = refl
+without-same p q h (t ∷ ts) = rw (h (t .key), without-same p q h ts)
+
 -- ---- the eight keys: an edit by another key commutes with dropping them
 
 module _ (key : List ℕ) (other : isMp3gainKey key ≡ false) where
@@ -111,6 +129,21 @@ module _ (key : List ℕ) (other : isMp3gainKey key ≡ false) where
 
 pub remove-eight : (key : List ℕ) (ts : List Item) → without isMp3gainKey (removeItem key ts) ≡ removeItem key (without isMp3gainKey ts)
 remove-eight key ts = without-without isMp3gainKey (sameKey key) ts
+
+-- what undo drops, UNDONE_KEYS, MP3GAIN_UNDO and MP3GAIN_MINMAX, is the eight
+pub undo-drops : (ts : List Item) → removeItem minmaxKey (removeItem undoKey (without isUndone ts)) ≡ without isMp3gainKey ts
+undo-drops ts =
+    without-without (sameKey minmaxKey) (sameKey undoKey) (without isUndone ts)
+    ∙ ap (without (sameKey undoKey)) (without-or (sameKey minmaxKey) isUndone ts)
+    ∙ without-or (sameKey undoKey) (λ k. isUndone k || sameKey minmaxKey k) ts
+    ∙ without-same _ isMp3gainKey (λ k. turned (isUndone k) (sameKey minmaxKey k) (sameKey undoKey k) ∙ sym (eight-are k)) ts
+  where
+    turned : (a b c : Bool) → ((a || b) || c) ≡ (a || (c || b))
+    turned true b c = refl
+    turned false true true = refl
+    turned false true false = refl
+    turned false false true = refl
+    turned false false false = refl
 
 -- a key removed is not got
 pub get-removed : (key : List ℕ) (ts : List Item) → getItem key (removeItem key ts) ≡ none

@@ -67,11 +67,15 @@ module _ (s key : List ℕ) (at : ℕ) (within : at ≤ length s) where
       go none e = rw (e, ← parse-end s at within, e)
       go (some ts) e = rw (e, ← parse-end s at within, e, parse-none (drop at s) ts e)
 
-  pub locate-none : at ≡ length s → locateFrom s key at 0 ≡ Nowhere
-  locate-none e = last ∙ rw (eq-eqb at (length s) e)
+  module _ (left : ℕ) (z : left ≡ 0) where
+    none-left : locateFrom s key at left ≡ locateFrom s key at 0
+    none-left = ap (locateFrom s key at) z
 
-  pub locate-behind : (at ≡ length s → ⊥) → locateFrom s key at 0 ≡ Malformed
-  locate-behind e = last ∙ rw (ne-eqb at (length s) e)
+    pub locate-none : at ≡ length s → locateFrom s key at left ≡ Nowhere
+    locate-none e = none-left ∙ last ∙ rw (eq-eqb at (length s) e)
+
+    pub locate-behind : (at ≡ length s → ⊥) → locateFrom s key at left ≡ Malformed
+    locate-behind e = none-left ∙ last ∙ rw (ne-eqb at (length s) e)
 
 -- ---- what the search of an area says of it
 

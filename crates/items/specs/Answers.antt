@@ -57,6 +57,7 @@ foundAt (At start stop end) = Value (stop + 1) (end - (stop + 1))
 foundAt Nowhere = Nothing
 foundAt Malformed = Nothing
 
+-- the same, or the refusal
 abbrev pub foundBy : Plan Place → Found
 foundBy (no r) = Refused r
 foundBy (yes p) = foundAt p

@@ -12,6 +12,7 @@ use Rattle.keys.specs.Keys.{upperAll, sameKey}
 
 -- ---- items as bytes
 
+-- a key and its value
 pub record Item : Type 0 where
   pub key : List ℕ
   pub value : List ℕ

@@ -3,7 +3,7 @@ use Prim.Native.Nat.{ℕ, zero, suc, _+_, _-_, _≤_, _<_}
 use native.Mathlib.Omega.{arith}
 use native.Mathlib.Numerals.{add-one}
 use mathlib.Core.Path.{_≡_, refl, sym, ap, _∙_, fun-ext}
-use mathlib.Core.Bool.{Bool, true, false, not, _&&_, cond, and-eq-true-iff, true≢false}
+use mathlib.Core.Bool.{Bool, true, false, not, _&&_, _||_, cond, and-eq-true-iff, true≢false}
 use mathlib.Core.Option.{Option, none, some, Option·map}
 use mathlib.Core.List.{List, [], _∷_, map, map-map}
 use lib.ListN.{length, getD, drop, length-map}
@@ -35,6 +35,14 @@ key-sym a b e = key-same b a (sym (key-true a b e))
 
 pub key-trans : (a b c : List ℕ) → sameKey a b ≡ true → sameKey b c ≡ true → sameKey a c ≡ true
 key-trans a b c e f = key-same a c (key-true a b e ∙ key-true b c f)
+
+pub key-comm : (a b : List ℕ) → sameKey a b ≡ sameKey b a
+key-comm a b = go (sameKey a b) (sameKey b a) refl refl
+  where
+    go : (x y : Bool) → sameKey a b ≡ x → sameKey b a ≡ y → sameKey a b ≡ sameKey b a
+    go true y e f = e ∙ sym (key-sym a b e)
+    go false true e f = key-sym b a f ∙ sym f
+    go false false e f = e ∙ sym f
 
 -- ---- upper case
 
@@ -172,6 +180,18 @@ undone-eight key e = from-less 0 2 (omega arith) key e
 
 pub replaygain-eight : (key : List ℕ) → isReplayGain key ≡ true → isMp3gainKey key ≡ true
 replaygain-eight key e = from-less 0 3 (omega arith) key e
+
+-- UNDONE_KEYS with the two that level sets are the eight
+pub eight-are : (k : List ℕ) → isMp3gainKey k ≡ (isUndone k || (sameKey undoKey k || sameKey minmaxKey k))
+unfolding isFrom whichKey whichOf keys undoKey minmaxKey
+eight-are k = rw (key-comm undoKey k, key-comm minmaxKey k) (go (sameKey k undoKey) (sameKey k minmaxKey) (whichOf (drop 2 keys) k))
+  where
+    go : (a b : Bool) (o : Option ℕ) → found (cond a (some 0) (Option·map suc (cond b (some 0) (Option·map suc o)))) false (λ i. leb 0 i)
+        ≡ (found (cond a (some 0) (Option·map suc (cond b (some 0) (Option·map suc o)))) false (λ i. leb 2 i) || (a || b))
+    go true b o = refl
+    go false true o = refl
+    go false false none = refl
+    go false false (some i) = rw (le-leb 0 (suc (suc i)) (omega arith), le-leb 2 (suc (suc i)) (omega arith))
 
 -- the keys that level sets are of the eight, and none of UNDONE_KEYS
 pub undo-eight : (isMp3gainKey undoKey ≡ true) × (isMp3gainKey minmaxKey ≡ true)

@@ -14,6 +14,7 @@ use Rattle.keys.specs.declared.Which.the-variants.{Key, Other}
 unfoldable pub upper : ℕ → ℕ
 upper x = cond (among 0x61 0x7A x) (x - 32) x
 
+-- each byte of a text so
 unfoldable pub upperAll : List ℕ → List ℕ
 upperAll s = map upper s
 
@@ -58,10 +59,11 @@ isUndone k = isFrom 2 k
 abbrev pub isReplayGain : List ℕ → Bool
 isReplayGain k = isFrom 3 k
 
--- the two keys that level sets
+-- the key of the undo numbers
 unfoldable pub undoKey : List ℕ
 undoKey = ascii "MP3GAIN_UNDO"
 
+-- the key of the range of gains
 unfoldable pub minmaxKey : List ℕ
 minmaxKey = ascii "MP3GAIN_MINMAX"
 

@@ -1,4 +1,3 @@
 pub mod Trim
 pub mod Fields
 pub mod Reading
-pub mod Writing

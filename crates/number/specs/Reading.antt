@@ -63,15 +63,17 @@ i32 s = provided isI32 (whole (trim s))
 unfoldable pub u8 : List ℕ → Option ℕ
 u8 s = cond (isMinus (trim s)) none (provided (λ n. leb n 255) (natural (unsigned (trim s))))
 
--- the code's answers
+-- digits read, as the code answers it
 abbrev pub naturalOf : Option ℕ → n.Natural
 naturalOf none = n.the-variants.Nothing
 naturalOf (some k) = n.the-variants.Value k
 
+-- the same of a number field of an undo text
 abbrev pub i32Of : Option ℤ → i.I32Field
 i32Of none = i.the-variants.Nothing
 i32Of (some z) = i.the-variants.Value z
 
+-- the same of a number field of a range
 abbrev pub u8Of : Option ℕ → u.U8Field
 u8Of none = u.the-variants.Nothing
 u8Of (some k) = u.the-variants.Value k

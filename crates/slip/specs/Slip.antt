@@ -47,6 +47,7 @@ slipForm s = found (behind 0x0A s) none (λ t. found (behind 0x0A t) none (λ u.
 abbrev pub isStep : ℤ → Bool
 isStep z = leb (natAbs z) 255
 
+-- are both steps in range?
 abbrev pub inRange : Wish → Bool
 inRange w = isStep (w .left .0) && isStep (w .right .0)
 
@@ -62,11 +63,12 @@ answer o = found (refusalOf (slipTests o)) (found o (s.the-variants.Refused Malf
 abbrev pub readSlip : List ℕ → s.Slip
 readSlip s = answer (slipForm s)
 
--- answers of the code
+-- a mode read, as the code answers it
 abbrev pub modeIs : Option GainMode → m.ModeLine
 modeIs none = m.the-variants.Nothing
 modeIs (some g) = m.the-variants.Mode g
 
+-- a form read, as the code answers it
 abbrev pub formIs : Option Wish → f.Form
 formIs none = f.the-variants.Malformed
 formIs (some w) = f.the-variants.Good w

@@ -1,2 +1,4 @@
 pub mod Sums
 pub mod Answers
+pub mod ReadBack
+pub mod Texts

@@ -7,7 +7,7 @@ use lib.IntN.{ℤ, _+ℤ_}
 use Rattle.lists.specs.Choice.{found}
 use Rattle.number.specs.Fields.{before, behind}
 use Rattle.number.specs.Reading.{isU8, i32, u8}
-use Rattle.number.specs.Writing.{places}
+use Rattle.decimal.specs.Writing.{places}
 use Rattle.frame.specs.declared.GainMode.the-variants.{Saturating}
 use Rattle.frame.specs.Gain.{adjust}
 use Rattle.values.specs.declared.Range.{Range}

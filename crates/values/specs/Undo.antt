@@ -8,7 +8,7 @@ use Rattle.lists.specs.Bytes.{ascii}
 use Rattle.number.specs.Trim.{trim}
 use Rattle.number.specs.Fields.{field}
 use Rattle.number.specs.Reading.{i32}
-use Rattle.number.specs.Writing.{signed}
+use Rattle.decimal.specs.Writing.{signed}
 use Rattle.keys.specs.Keys.{sameKey}
 use Rattle.values.specs.declared.UndoValues.{UndoValues}
 

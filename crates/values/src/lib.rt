@@ -1,11 +1,11 @@
 // The values that mp3gain keeps in a tag: undo texts, ranges and gain texts.
+use decimal::Shifted;
+use decimal::Text;
 use frame::GainMode;
 use frame::GainSteps;
 use integers::Apart;
 use keys::Which;
 use number::I32Field;
-use number::Shifted;
-use number::Text;
 use number::U8Field;
 ghost use mathlib.Core.Path.{_≡_};
 ghost use mathlib.Core.Bool.{not, _||_};
@@ -14,7 +14,7 @@ ghost use mathlib.Core.Option.{Option·getD};
 ghost use Prim.Native.Nat.{_<_, min};
 ghost use lib.IntN.{_+ℤ_, _-ℤ_};
 ghost use Rattle.number.specs.Reading.{i32, isU8};
-ghost use Rattle.number.specs.Writing.{textOf, shiftedIs};
+ghost use Rattle.decimal.specs.Writing.{textOf, shiftedIs};
 ghost use Rattle.integers.specs.Apart.{wholeOf};
 ghost use Rattle.values.specs.Undo as U;
 ghost use Rattle.values.specs.Range as R;
@@ -79,9 +79,9 @@ pub fn format_undo_value(left: i32, right: i32, wrap: bool) -> Text
     ensures { λ r. ⌜ r ≡ textOf (U.formatUndo left right wrap) ⌝ }
 {
     let mut bytes = [0u8; 32];
-    let a = number::put_signed(&mut bytes, 0, left);
+    let a = decimal::put_signed(&mut bytes, 0, left);
     let b = lists::put(&mut bytes, a, b",");
-    let c = number::put_signed(&mut bytes, b, right);
+    let c = decimal::put_signed(&mut bytes, b, right);
     let flag = [b',', flag_byte(wrap)];
     let len = lists::put(&mut bytes, c, &flag);
     Text { bytes, len }
@@ -92,9 +92,9 @@ pub fn format_minmax(least: u8, greatest: u8) -> Text
     ensures { λ r. ⌜ r ≡ textOf (R.formatRange (record { least = least; greatest = greatest })) ⌝ }
 {
     let mut bytes = [0u8; 32];
-    let a = number::put_places(&mut bytes, 0, 3, least as u32);
+    let a = decimal::put_places(&mut bytes, 0, 3, least as u32);
     let b = lists::put(&mut bytes, a, b",");
-    let len = number::put_places(&mut bytes, b, 3, greatest as u32);
+    let len = decimal::put_places(&mut bytes, b, 3, greatest as u32);
     Text { bytes, len }
 }
 
@@ -172,14 +172,14 @@ pub fn accumulate_undo(text: &[u8], left: GainSteps, right: GainSteps) -> UndoVa
 fn parse_range(text: &[u8]) -> RangeField
     ensures { λ r. ⌜ r ≡ R.rangeIs (R.parseRange (now (text .entry))) ⌝ }
 {
-    let e = lists::find_byte(text, 0, b',');
-    if e == text.len() {
+    let comma = lists::find_byte(text, 0, b',');
+    if comma == text.len() {
         return RangeField::Nothing;
     }
-    let U8Field::Value(least) = number::parse_u8(&text[0..e]) else {
+    let U8Field::Value(least) = number::parse_u8(&text[0..comma]) else {
         return RangeField::Nothing;
     };
-    let f = e + 1;
+    let f = comma + 1;
     let U8Field::Value(greatest) = number::parse_u8(&text[f..]) else {
         return RangeField::Nothing;
     };
@@ -239,7 +239,7 @@ fn shift_range(text: &[u8], steps: GainSteps) -> Shifted
     ensures { λ r. ⌜ r ≡ shiftedIs (R.shiftRange (steps .0) (now (text .entry))) ⌝ }
 {
     let RangeField::Value(range) = parse_range(text) else {
-        return number::as_found();
+        return decimal::as_found();
     };
     let least = frame::adjust_gain_value(range.least, steps, GainMode::Saturating);
     let greatest = frame::adjust_gain_value(range.greatest, steps, GainMode::Saturating);
@@ -247,6 +247,13 @@ fn shift_range(text: &[u8], steps: GainSteps) -> Shifted
         moved: true,
         text: format_minmax(least, greatest),
     }
+}
+
+// The kinds of values that a shift tells apart.
+pub enum Kind {
+    Range,
+    Gain,
+    Other,
 }
 
 // The places of four keys in the table of eight.
@@ -268,31 +275,42 @@ fn is_either(i: usize, a: usize, b: usize) -> bool
     i == b
 }
 
+// What kind of value an item with this key holds.
+fn kind_of(key: &[u8]) -> Kind
+    ensures { λ r. ⌜ r ≡ S.kindOf (now (key .entry)) ⌝ }
+{
+    let Which::Key(i) = keys::which_key(key) else {
+        return Kind::Other;
+    };
+    if is_either(i, MINMAX, ALBUM_MINMAX) {
+        return Kind::Range;
+    }
+    if is_either(i, TRACK_GAIN, ALBUM_GAIN) {
+        return Kind::Gain;
+    }
+    Kind::Other
+}
+
 // Whether an item is a range of which a number leaves 0..255.
 pub fn range_wraps_out(key: &[u8], value: &[u8], steps: GainSteps) -> bool
     ensures { λ r. ⌜ r ≡ S.rangeWrapsOut (now (key .entry)) (now (value .entry)) (steps .0) ⌝ }
 {
-    let Which::Key(i) = keys::which_key(key) else {
-        return false;
-    };
-    if !is_either(i, MINMAX, ALBUM_MINMAX) {
-        return false;
+    let kind = kind_of(key);
+    match kind {
+        Kind::Range => wraps_out(value, steps),
+        Kind::Gain => false,
+        Kind::Other => false,
     }
-    wraps_out(value, steps)
 }
 
 // A stored value after so many steps. Peaks and values of other keys stay as found.
 pub fn shift_stored_value(key: &[u8], value: &[u8], steps: GainSteps) -> Shifted
     ensures { λ r. ⌜ r ≡ shiftedIs (S.shiftStored (now (key .entry)) (now (value .entry)) (steps .0)) ⌝ }
 {
-    let Which::Key(i) = keys::which_key(key) else {
-        return number::as_found();
-    };
-    if is_either(i, MINMAX, ALBUM_MINMAX) {
-        return shift_range(value, steps);
+    let kind = kind_of(key);
+    match kind {
+        Kind::Range => shift_range(value, steps),
+        Kind::Gain => decibels::shift_gain(value, steps),
+        Kind::Other => decimal::as_found(),
     }
-    if is_either(i, TRACK_GAIN, ALBUM_GAIN) {
-        return decibels::shift_gain(value, steps);
-    }
-    number::as_found()
 }

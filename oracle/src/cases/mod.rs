@@ -2,6 +2,7 @@
 
 use crate::tools::{Bench, Compare, Record};
 
+mod ape;
 mod frame;
 mod utf8;
 
@@ -13,4 +14,4 @@ pub struct Case {
     pub bench: fn(&mut Bench),
 }
 
-pub const ALL: &[Case] = &[frame::CASE, utf8::CASE];
+pub const ALL: &[Case] = &[frame::CASE, ape::CASE, utf8::CASE];

@@ -84,17 +84,13 @@ returns-3 : tie.Need-returns-3 Inv-loop μ-loop
 returns-3 c =
     let l = c .before .before in
     let g = l .before .before .before .before .args in
-    let z : l .loop .left ≡ 0 = omega arith in
-    sym (l .loop .inv .3 ∙ ap (λ (i : ℕ). measured (dropped (g .what) (g .key .now)) (g .area .now) (l .loop .at) i (l .loop .n) (l .loop .size)) z
-    ∙ measure-behind (dropped (g .what) (g .key .now)) (g .area .now) (l .loop .at) (l .loop .n) (l .loop .size) (l .loop .inv .0) (c .if3 .taken))
+    sym (l .loop .inv .3 ∙ measure-behind (dropped (g .what) (g .key .now)) (g .area .now) (l .loop .at) (l .loop .n) (l .loop .size) (l .loop .inv .0) (l .loop .left) (omega arith) (c .if3 .taken))
 
 returns-4 : tie.Need-returns-4 Inv-loop μ-loop
 returns-4 c =
     let l = c .before .before in
     let g = l .before .before .before .before .args in
-    let z : l .loop .left ≡ 0 = omega arith in
-    sym (l .loop .inv .3 ∙ ap (λ (i : ℕ). measured (dropped (g .what) (g .key .now)) (g .area .now) (l .loop .at) i (l .loop .n) (l .loop .size)) z
-    ∙ measure-end (dropped (g .what) (g .key .now)) (g .area .now) (l .loop .at) (l .loop .n) (l .loop .size) (l .loop .inv .0) (c .if3 .left))
+    sym (l .loop .inv .3 ∙ measure-end (dropped (g .what) (g .key .now)) (g .area .now) (l .loop .at) (l .loop .n) (l .loop .size) (l .loop .inv .0) (l .loop .left) (omega arith) (c .if3 .left))
 
 pub measure-without-spec : {M : Type 1} → statement M
 measure-without-spec =

@@ -6,8 +6,8 @@ use native.Mathlib.Omega.{arith}
 use lib.ListN.{replicate}
 use Rattle.lists.specs.Bytes.{ascii}
 use Rattle.lists.proofs.Wrote.{start, next}
-use Rattle.number.specs.Writing.{places, decimal, signByte, textOf}
-use Rattle.number.proofs.Places.{length-places, text-is}
+use Rattle.decimal.specs.Writing.{places, decimal, signByte, textOf}
+use Rattle.decimal.proofs.Places.{length-places, text-is}
 use Rattle.decibels.specs.Gain.{formatGain}
 use Rattle.decibels.proofs.format_gain.Statement.{statement}
 use Rattle.decibels.proofs.format_gain.Tie as tie

@@ -1,5 +1,7 @@
 use borrow.Author.Needs.{needs}
 use Prim.Native.Nat.{ℕ, _+_, _-_, _≤_, _<_}
+use mathlib.Core.Bool.{true}
+use mathlib.Core.Option.{some}
 use mathlib.Core.Path.{_≡_, refl, sym, ap, _∙_}
 use mathlib.Core.List.{List}
 use native.Mathlib.Omega.{arith}
@@ -8,7 +10,7 @@ use borrow.Author.Tests.{le-leb, lt-leb}
 use lib.Dec.{leb}
 use Rattle.lists.specs.Bytes.{placeOf}
 use Rattle.lists.specs.Choice.{provided}
-use Rattle.number.specs.Fields.{before}
+use Rattle.number.specs.Fields.{before, behind}
 use Rattle.number.specs.Reading.{natural, naturalOf}
 use Rattle.number.proofs.Digits.{natural-fits}
 use Rattle.number.proofs.Limits.{value-is, nothing-is}
@@ -16,6 +18,13 @@ use Rattle.number.proofs.Cuts.{front-is, within-text, length-front, no-back, wi
 use Rattle.decibels.specs.Gain.{fraction, millionths}
 use Rattle.decibels.proofs.parse_millionths.Statement.{statement}
 use Rattle.decibels.proofs.parse_millionths.Tie as tie
+
+-- what follows the point is a part of the text
+behind-point : (c : tie.After-known-told) → (c .before .before .before .before .before .before .before .find-byte .result) + 1 ≤ length (c .before .before .before .before .before .before .before .before .before .args .s .now)
+behind-point c =
+    let i = c .before .before .before .before .before .before in
+    let f = i .before in
+    within-back 46 (f .before .before .args .s .now) (f .find-byte .result) (f .find-byte .ensures) (i .if1 .left)
 
 returns : tie.Need-returns
 unfolding millionths
@@ -43,74 +52,56 @@ part-parse-natural-end c =
 front : (s : List ℕ) (e : ℕ) (q : e ≡ 0 + placeOf 46 s) → e ≤ 4 → naturalOf (provided (λ n. leb n 9999) (natural (take (e - 0) s))) ≡ naturalOf (natural (before 46 s))
 front s e q h = rw (front-is 46 s e q) (ap naturalOf (natural-fits (before 46 s) 4 9999 (omega (arith, length-front 46 s e q)) (omega arith)))
 
+-- up to four bytes stand before the point
+module _ (c : tie.Else2) where
+  abbrev text : List ℕ
+  text = c .before .before .before .before .args .s .now
+
+  abbrev place : ℕ
+  place = c .before .before .find-byte .result
+
+  cut-at : behind 46 text ≡ some (take (length text - (place + 1)) (drop (place + 1) text))
+  cut-at = back-is 46 text place (c .before .before .find-byte .ensures) (c .before .if1 .left)
+
+  short : leb (length (before 46 text)) 4 ≡ true
+  short = le-leb (length (before 46 text)) 4 (omega (arith, length-front 46 text place (c .before .before .find-byte .ensures)))
+
+  four : naturalOf (provided (λ n. leb n 9999) (natural (take (place - 0) text))) ≡ naturalOf (natural (before 46 text))
+  four = front text place (c .before .before .find-byte .ensures) (c .if2 .left)
+
+-- and they are a number
+whole-part : (c : tie.After-known-told) → natural (before 46 (text (c .before .before .before .before .before))) ≡ some (c .before .a .given .0 .0)
+whole-part c =
+    let a = c .before in
+    let p = a .before .before in
+    let j = p .before .before in
+    value-is (natural (before 46 (text j))) (a .a .given .0 .0) (sym (a .a .given .1) ∙ p .parse-natural .ensures ∙ four j)
+
 returns-3 : tie.Need-returns-3
 unfolding millionths
 returns-3 c =
     let p = c .before .before in
     let j = p .before .before in
-    let i = j .before in
-    let f = i .before in
-    let s = f .before .before .args .s .now in
-    let e = f .find-byte .result in
-    let q = f .find-byte .ensures in
-    rw (
-      back-is 46 s e q (i .if1 .left),
-      le-leb (length (before 46 s)) 4 (omega (arith, length-front 46 s e q)),
-      nothing-is (natural (before 46 s)) (sym (c .enum-told .given .1) ∙ p .parse-natural .ensures ∙ front s e q (j .if2 .left)),
-    )
-
-sub-fraction : tie.Need-sub-fraction
-sub-fraction c =
-    let i = c .before .before .before .before .before .before in
-    let f = i .before in
-    omega (arith, within-back 46 (f .before .before .args .s .now) (f .find-byte .result) (f .find-byte .ensures) (i .if1 .left))
-
-part-fraction-start : tie.Need-part-fraction-start
-part-fraction-start c =
-    let i = c .before .before .before .before .before .before in
-    let f = i .before in
-    omega (arith, within-back 46 (f .before .before .args .s .now) (f .find-byte .result) (f .find-byte .ensures) (i .if1 .left))
+    rw (cut-at j, short j, nothing-is (natural (before 46 (text j))) (sym (c .enum-told .given .1) ∙ p .parse-natural .ensures ∙ four j))
 
 returns-4 : tie.Need-returns-4
 unfolding millionths
 returns-4 c =
     let r = c .before .before in
-    let a = r .before .before .before in
-    let p = a .before .before in
-    let j = p .before .before in
-    let i = j .before in
-    let f = i .before in
-    let s = f .before .before .args .s .now in
-    let e = f .find-byte .result in
-    let q = f .find-byte .ensures in
-    let t = take (length s - (e + 1)) (drop (e + 1) s) in
-    rw (
-      back-is 46 s e q (i .if1 .left),
-      le-leb (length (before 46 s)) 4 (omega (arith, length-front 46 s e q)),
-      value-is (natural (before 46 s)) (a .a .given .0 .0) (sym (a .a .given .1) ∙ p .parse-natural .ensures ∙ front s e q (j .if2 .left)),
-      nothing-is (fraction t) (sym (c .enum-told2 .given .1) ∙ r .fraction .ensures),
-    )
+    let k = r .before .before in
+    let j = k .before .before .before .before .before in
+    let t = take (length (text j) - (place j + 1)) (drop (place j + 1) (text j)) in
+    rw (cut-at j, short j, whole-part k, nothing-is (fraction t) (sym (c .enum-told2 .given .1) ∙ r .fraction .ensures))
 
 returns-5 : tie.Need-returns-5
 unfolding millionths
 returns-5 c =
     let b = c .before in
     let r = b .before .before in
-    let a = r .before .before .before in
-    let p = a .before .before in
-    let j = p .before .before in
-    let i = j .before in
-    let f = i .before in
-    let s = f .before .before .args .s .now in
-    let e = f .find-byte .result in
-    let q = f .find-byte .ensures in
-    let t = take (length s - (e + 1)) (drop (e + 1) s) in
-    rw (
-      back-is 46 s e q (i .if1 .left),
-      le-leb (length (before 46 s)) 4 (omega (arith, length-front 46 s e q)),
-      value-is (natural (before 46 s)) (a .a .given .0 .0) (sym (a .a .given .1) ∙ p .parse-natural .ensures ∙ front s e q (j .if2 .left)),
-      value-is (fraction t) (b .b .given .0 .0) (sym (b .b .given .1) ∙ r .fraction .ensures),
-    )
+    let k = r .before .before in
+    let j = k .before .before .before .before .before in
+    let t = take (length (text j) - (place j + 1)) (drop (place j + 1) (text j)) in
+    rw (cut-at j, short j, whole-part k, value-is (fraction t) (b .b .given .0 .0) (sym (b .b .given .1) ∙ r .fraction .ensures))
 
 pub parse-millionths-spec : {M : Type 1} → statement M
 parse-millionths-spec =
@@ -127,8 +118,8 @@ parse-millionths-spec =
     (λ c. search needs)
     returns-3
     (λ c. search needs)
-    sub-fraction
-    part-fraction-start
+    (λ c. omega (arith, behind-point c))
+    (λ c. omega (arith, behind-point c))
     (λ c. search needs)
     (λ c κs. search needs)
     (λ c. search needs)

@@ -7,8 +7,8 @@ use mir.Val.{SFits}
 use mir.Facts.{toZ-ofZ}
 use lib.IntN.{natAbs}
 use lib.Signed.{mag, natAbs-le}
-use Rattle.number.specs.Writing.{isNegative}
-use Rattle.number.proofs.Places.{negative}
+use Rattle.decimal.specs.Writing.{isNegative}
+use Rattle.decimal.proofs.Places.{negative}
 use Rattle.number.proofs.Signs.{taken}
 use Rattle.decibels.proofs.Amounts.{steps-amount}
 use Rattle.decibels.proofs.steps_to_db.Statement.{statement}

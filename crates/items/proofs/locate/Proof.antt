@@ -65,15 +65,13 @@ returns-5 : tie.Need-returns-5 Inv-loop μ-loop
 returns-5 c =
     let l = c .before .before in
     let g = l .before .before .before .before .args in
-    let z : l .loop .left ≡ 0 = omega arith in
-    sym (l .loop .inv .1 ∙ ap (locateFrom (g .area .now) (g .key .now) (l .loop .at)) z ∙ locate-behind (g .area .now) (g .key .now) (l .loop .at) (l .loop .inv .0) (c .if4 .taken))
+    sym (l .loop .inv .1 ∙ locate-behind (g .area .now) (g .key .now) (l .loop .at) (l .loop .inv .0) (l .loop .left) (omega arith) (c .if4 .taken))
 
 returns-6 : tie.Need-returns-6 Inv-loop μ-loop
 returns-6 c =
     let l = c .before .before in
     let g = l .before .before .before .before .args in
-    let z : l .loop .left ≡ 0 = omega arith in
-    sym (l .loop .inv .1 ∙ ap (locateFrom (g .area .now) (g .key .now) (l .loop .at)) z ∙ locate-none (g .area .now) (g .key .now) (l .loop .at) (l .loop .inv .0) (c .if4 .left))
+    sym (l .loop .inv .1 ∙ locate-none (g .area .now) (g .key .now) (l .loop .at) (l .loop .inv .0) (l .loop .left) (omega arith) (c .if4 .left))
 
 pub locate-spec : {M : Type 1} → statement M
 locate-spec =

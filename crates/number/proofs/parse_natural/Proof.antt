@@ -32,29 +32,32 @@ returns-2 c =
     let g = l .before .before .before .args in
     rw (l .loop .inv .2, digits-stop (l .loop .n) (g .s .now) (l .loop .i) (omega arith) (sym (d .is-digit .ensures) ∙ not-true (d .is-digit .result) (c .if2 .taken)))
 
-returns-3 : tie.Need-returns-3 Inv-loop μ-loop
-returns-3 c =
-    let v = c .before in
-    let d = v .before .before in
-    let l = d .before .before .before in
-    let g = l .before .before .before .args in
-    let x = v .digit-value .result in
-    rw (l .loop .inv .2, digits-step (l .loop .n) (g .s .now) (l .loop .i) x (omega arith) (sym (d .is-digit .ensures) ∙ not-false (d .is-digit .result) (v .before .if2 .left)) (v .digit-value .ensures .0), digits-over (g .limit) (l .loop .n * 10 + x) (drop (l .loop .i + 1) (g .s .now)) (c .if3 .taken))
-
-loop-again : tie.Need-loop-again Inv-loop μ-loop
-loop-again c =
-    let v = c .before in
-    let d = v .before .before in
-    let l = d .before .before .before in
-    let g = l .before .before .before .args in
-    let x = v .digit-value .result in
-    (omega arith, omega arith, l .loop .inv .2 ∙ digits-step (l .loop .n) (g .s .now) (l .loop .i) x (omega arith) (sym (d .is-digit .ensures) ∙ not-false (d .is-digit .result) (v .before .if2 .left)) (v .digit-value .ensures .0))
-
 returns-4 : tie.Need-returns-4 Inv-loop μ-loop
 returns-4 c =
     let l = c .before in
     let g = l .before .before .before .args in
     rw (l .loop .inv .2, digits-end (l .loop .n) (g .s .now) (l .loop .i) (omega arith), digits-within (g .limit) (l .loop .n) (l .loop .inv .1))
+
+-- one turn: the digit at i was read
+turn : (c : tie.After-digit-value Inv-loop μ-loop)
+    → natural (c .before .before .before .before .before .before .before .before .args .s .now)
+    ≡ digitsFrom (c .before .before .before .before .before .loop .n * 10 + c .digit-value .result)
+    (drop (c .before .before .before .before .before .loop .i + 1) (c .before .before .before .before .before .before .before .before .args .s .now))
+turn c =
+    let d = c .before .before in
+    let l = d .before .before .before in
+    let g = l .before .before .before .args in
+    l .loop .inv .2
+    ∙ digits-step (l .loop .n) (g .s .now) (l .loop .i) (c .digit-value .result) (omega arith) (sym (d .is-digit .ensures) ∙ not-false (d .is-digit .result) (c .before .if2 .left)) (c .digit-value .ensures .0)
+
+returns-3 : tie.Need-returns-3 Inv-loop μ-loop
+returns-3 c =
+    let l = c .before .before .before .before .before .before in
+    let g = l .before .before .before .args in
+    rw (turn (c .before), digits-over (g .limit) (l .loop .n * 10 + c .before .digit-value .result) (drop (l .loop .i + 1) (g .s .now)) (c .if3 .taken))
+
+loop-again : tie.Need-loop-again Inv-loop μ-loop
+loop-again c = (omega arith, omega arith, turn (c .before))
 
 pub parse-natural-spec : {M : Type 1} → statement M
 parse-natural-spec =

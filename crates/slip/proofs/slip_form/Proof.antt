@@ -1,5 +1,5 @@
 use borrow.Author.Needs.{needs}
-use Prim.Native.Nat.{ℕ, _+_, _-_}
+use Prim.Native.Nat.{ℕ, _+_, _-_, _≤_}
 use mathlib.Core.Path.{_≡_, sym, ap, _∙_}
 use mathlib.Core.List.{List}
 use native.Mathlib.Omega.{arith}
@@ -13,33 +13,26 @@ use Rattle.slip.proofs.slip_form.Tie as tie
 abbrev cutBehind : List ℕ → ℕ → List ℕ
 cutBehind s e = take (length s - (e + 1)) (drop (e + 1) s)
 
+-- what follows the first LF is a part of the text
+second-line : (c : tie.Else1) → (c .before .find-byte .result) + 1 ≤ length (c .before .before .before .args .text .now)
+second-line c =
+    let f = c .before in
+    within-back 10 (f .before .before .args .text .now) (f .find-byte .result) (f .find-byte .ensures) (c .if1 .left)
+
+-- and what follows the second is a part of that
+last-line : (c : tie.Else2) → (c .before .find-byte2 .result) + 1 ≤ length (cutBehind (c .before .before .before .before .before .before .args .text .now) (c .before .before .before .before .find-byte .result))
+last-line c =
+    let g = c .before in
+    let f = g .before .before .before in
+    let t = cutBehind (f .before .before .args .text .now) (f .find-byte .result) in
+    within-back 10 t (g .find-byte2 .result) (g .find-byte2 .ensures) (c .if2 .left)
+
 returns : tie.Need-returns
 unfolding slipForm
 returns c =
     let f = c .before in
     let s = f .before .before .args .text .now in
     rw (no-back 10 s (f .find-byte .result) (f .find-byte .ensures) (c .if1 .taken))
-
-add-second : tie.Need-add-second
-add-second c =
-    let i = c in
-    let f = i .before in
-    let s = f .before .before .args .text .now in
-    omega (arith, within-back 10 s (f .find-byte .result) (f .find-byte .ensures) (i .if1 .left))
-
-sub-behind : tie.Need-sub-behind
-sub-behind c =
-    let i = c in
-    let f = i .before in
-    let s = f .before .before .args .text .now in
-    omega (arith, within-back 10 s (f .find-byte .result) (f .find-byte .ensures) (i .if1 .left))
-
-part-behind-start : tie.Need-part-behind-start
-part-behind-start c =
-    let i = c in
-    let f = i .before in
-    let s = f .before .before .args .text .now in
-    omega (arith, within-back 10 s (f .find-byte .result) (f .find-byte .ensures) (i .if1 .left))
 
 returns-2 : tie.Need-returns-2
 unfolding slipForm
@@ -50,14 +43,6 @@ returns-2 c =
     let s = f .before .before .args .text .now in
     let e = f .find-byte .result in
     rw (back-is 10 s e (f .find-byte .ensures) (i .if1 .left), no-back 10 (cutBehind s e) (g .find-byte2 .result) (g .find-byte2 .ensures) (c .if2 .taken))
-
-add-last : tie.Need-add-last
-add-last c =
-    let j = c in
-    let g = j .before in
-    let f = g .before .before .before in
-    let t = cutBehind (f .before .before .args .text .now) (f .find-byte .result) in
-    omega (arith, within-back 10 t (g .find-byte2 .result) (g .find-byte2 .ensures) (j .if2 .left))
 
 part-lines-form-end : tie.Need-part-lines-form-end
 part-lines-form-end c =
@@ -70,22 +55,6 @@ part-lines-form-end-2 c =
     let f = g .before .before .before in
     let t = cutBehind (f .before .before .args .text .now) (f .find-byte .result) in
     omega (arith, within-text 10 t (g .find-byte2 .result) (g .find-byte2 .ensures))
-
-sub-lines-form-3 : tie.Need-sub-lines-form-3
-sub-lines-form-3 c =
-    let j = c .before .before in
-    let g = j .before in
-    let f = g .before .before .before in
-    let t = cutBehind (f .before .before .args .text .now) (f .find-byte .result) in
-    omega (arith, within-back 10 t (g .find-byte2 .result) (g .find-byte2 .ensures) (j .if2 .left))
-
-part-lines-form-start-3 : tie.Need-part-lines-form-start-3
-part-lines-form-start-3 c =
-    let j = c .before .before in
-    let g = j .before in
-    let f = g .before .before .before in
-    let t = cutBehind (f .before .before .args .text .now) (f .find-byte .result) in
-    omega (arith, within-back 10 t (g .find-byte2 .result) (g .find-byte2 .ensures) (j .if2 .left))
 
 returns-3 : tie.Need-returns-3
 unfolding slipForm
@@ -112,21 +81,21 @@ slip-form-spec =
     (tie.spec
     (λ c κs. search needs)
     returns
-    add-second
-    sub-behind
-    part-behind-start
+    (λ c. omega (arith, second-line c))
+    (λ c. omega (arith, second-line c))
+    (λ c. omega (arith, second-line c))
     (λ c. search needs)
     (λ c κs. search needs)
     returns-2
-    add-last
+    (λ c. omega (arith, last-line c))
     (λ c. search needs)
     (λ c. search needs)
     part-lines-form-end
     (λ c. search needs)
     (λ c. search needs)
     part-lines-form-end-2
-    sub-lines-form-3
-    part-lines-form-start-3
+    (λ c. omega (arith, last-line (c .before .before)))
+    (λ c. omega (arith, last-line (c .before .before)))
     (λ c. search needs)
     (λ c κs. search needs)
     returns-3)

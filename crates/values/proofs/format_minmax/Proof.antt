@@ -5,8 +5,8 @@ use native.Mathlib.Omega.{arith}
 use borrow.Author.Needs.{needs}
 use lib.ListN.{replicate}
 use Rattle.lists.proofs.Wrote.{start, next}
-use Rattle.number.specs.Writing.{places, textOf}
-use Rattle.number.proofs.Places.{length-places, text-is}
+use Rattle.decimal.specs.Writing.{places, textOf}
+use Rattle.decimal.proofs.Places.{length-places, text-is}
 use Rattle.values.specs.Range.{formatRange}
 use Rattle.values.proofs.format_minmax.Statement.{statement}
 use Rattle.values.proofs.format_minmax.Tie as tie

@@ -8,8 +8,8 @@ use mir.Val.{SFits}
 use mir.Facts.{toZ-ofZ}
 use lib.ListN.{replicate}
 use Rattle.lists.proofs.Wrote.{start, next}
-use Rattle.number.specs.Writing.{signed, textOf}
-use Rattle.number.proofs.Places.{text-is}
+use Rattle.decimal.specs.Writing.{signed, textOf}
+use Rattle.decimal.proofs.Places.{text-is}
 use Rattle.values.specs.Undo.{flagByte, formatUndo}
 use Rattle.values.proofs.format_undo_value.Statement.{statement}
 use Rattle.values.proofs.format_undo_value.Tie as tie

@@ -1,46 +1,20 @@
 use borrow.Author.Needs.{needs}
-use mathlib.Core.Path.{_≡_, sym, ap, _∙_}
-use borrow.Author.Tests.{not-true, not-false}
-use Rattle.keys.specs.Keys.{whichKey}
+use mathlib.Core.Path.{_≡_}
 use Rattle.values.specs.Stored.{rangeWrapsOut}
-use Rattle.keys.proofs.Keys.{which-some, which-none}
 use Rattle.values.proofs.range_wraps_out.Statement.{statement}
 use Rattle.values.proofs.range_wraps_out.Tie as tie
 
 returns : tie.Need-returns
 unfolding rangeWrapsOut
-returns c =
-    let w = c .before .before in
-    let g = w .before .before .before .args in
-    rw (which-none (whichKey (g .key .now)) (sym (c .enum-told .given .1) ∙ w .which-key .ensures))
+returns c = rw (← c .before .before .before .kind-of .ensures, c .before .enum-told .given .1) (c .wraps-out .ensures)
 
 returns-2 : tie.Need-returns-2
 unfolding rangeWrapsOut
-returns-2 c =
-    let r = c .before in
-    let i = r .before .before in
-    let w = i .before .before in
-    let g = w .before .before .before .args in
-    rw (
-      which-some (whichKey (g .key .now)) (i .i .given .0 .0) (sym (i .i .given .1) ∙ w .which-key .ensures),
-      ← r .is-either .ensures,
-      not-true (r .is-either .result) (c .if1 .taken),
-    )
+returns-2 c = rw (← c .before .before .kind-of .ensures, c .enum-told2 .given .1)
 
 returns-3 : tie.Need-returns-3
 unfolding rangeWrapsOut
-returns-3 c =
-    let t = c .before in
-    let r = t .before in
-    let i = r .before .before in
-    let w = i .before .before in
-    let g = w .before .before .before .args in
-    rw (
-      which-some (whichKey (g .key .now)) (i .i .given .0 .0) (sym (i .i .given .1) ∙ w .which-key .ensures),
-      ← r .is-either .ensures,
-      not-false (r .is-either .result) (t .if1 .left),
-    )
-    (c .wraps-out .ensures)
+returns-3 c = rw (← c .before .before .kind-of .ensures, c .enum-told3 .given .1)
 
 pub range-wraps-out-spec : {M : Type 1} → statement M
 range-wraps-out-spec =
@@ -48,9 +22,9 @@ range-wraps-out-spec =
     (tie.spec
     (λ c κs. search needs)
     (λ c. search needs)
+    (λ c κs. search needs)
+    (λ c. search needs)
     (λ c. search needs)
     returns
-    (λ c κs. search needs)
     returns-2
-    (λ c κs. search needs)
     returns-3)

@@ -1,4 +1,5 @@
 use borrow.Author.Needs.{needs}
+use Prim.Native.Nat.{_+_, _≤_}
 use mathlib.Core.Path.{_≡_, sym, ap, _∙_}
 use native.Mathlib.Omega.{arith}
 use lib.ListN.{length}
@@ -7,6 +8,13 @@ use Rattle.number.proofs.Cuts.{front-is, within-text, no-back, within-back, bac
 use Rattle.values.specs.Range.{wrapsOut}
 use Rattle.values.proofs.wraps_out.Statement.{statement}
 use Rattle.values.proofs.wraps_out.Tie as tie
+
+-- what follows the comma is a part of the text
+behind-comma : (c : tie.Else2) → (c .before .before .before .before .find-byte .result) + 1 ≤ length (c .before .before .before .before .before .before .args .text .now)
+behind-comma c =
+    let i = c .before .before .before in
+    let f = i .before in
+    within-back 44 (f .before .before .args .text .now) (f .find-byte .result) (f .find-byte .ensures) (i .if1 .left)
 
 returns : tie.Need-returns
 unfolding wrapsOut
@@ -31,24 +39,6 @@ returns-2 c =
     let q = f .find-byte .ensures in
     rw (back-is 44 s e q (i .if1 .left), ← front-is 44 s e q, ← l .leaves .ensures, c .if2 .taken)
 
-add-f : tie.Need-add-f
-add-f c =
-    let i = c .before .before .before in
-    let f = i .before in
-    omega (arith, within-back 44 (f .before .before .args .text .now) (f .find-byte .result) (f .find-byte .ensures) (i .if1 .left))
-
-sub-leaves-2 : tie.Need-sub-leaves-2
-sub-leaves-2 c =
-    let i = c .before .before .before in
-    let f = i .before in
-    omega (arith, within-back 44 (f .before .before .args .text .now) (f .find-byte .result) (f .find-byte .ensures) (i .if1 .left))
-
-part-leaves-start-2 : tie.Need-part-leaves-start-2
-part-leaves-start-2 c =
-    let i = c .before .before .before in
-    let f = i .before in
-    omega (arith, within-back 44 (f .before .before .args .text .now) (f .find-byte .result) (f .find-byte .ensures) (i .if1 .left))
-
 returns-3 : tie.Need-returns-3
 unfolding wrapsOut
 returns-3 c =
@@ -72,9 +62,9 @@ wraps-out-spec =
     part-leaves-end
     (λ c κs. search needs)
     returns-2
-    add-f
-    sub-leaves-2
-    part-leaves-start-2
+    (λ c. omega (arith, behind-comma c))
+    (λ c. omega (arith, behind-comma c))
+    (λ c. omega (arith, behind-comma c))
     (λ c. search needs)
     (λ c κs. search needs)
     returns-3)

@@ -1,0 +1,132 @@
+// Replays the published Rust's recorded answers for crates ape and ape_write.
+use ape::FooterFound;
+use ape::TagRead;
+use ape_write::Written;
+use vectors::Tally;
+
+// Whether the word at this place is the hex of these bytes.
+fn is_hex(text: &[u8], at: usize, bytes: &[u8]) -> bool {
+    let mut wanted = [0u8; 2048];
+    let n = vectors::hex_bytes(text, at, &mut wanted);
+    lists::equal(&wanted[0..n], bytes)
+}
+
+// `footer FILE PLACE`: where the footer stands, or `none`.
+fn footer(text: &[u8], at: usize) -> bool {
+    let mut file = [0u8; 2048];
+    let n = vectors::hex_bytes(text, at, &mut file);
+    let place = vectors::next_word(text, at);
+    let f = ape::find_ape_footer(&file[0..n]);
+    match f {
+        FooterFound::At(found) => {
+            if lists::starts_with(text, place, b"none") {
+                return false;
+            }
+            found as u64 == vectors::unsigned(text, place)
+        }
+        FooterFound::Nowhere => lists::starts_with(text, place, b"none"),
+        FooterFound::Refused(_) => false,
+    }
+}
+
+// `read FILE COUNT AREA`: how many items and their area, or `none -`.
+fn read(text: &[u8], at: usize) -> bool {
+    let mut file = [0u8; 2048];
+    let n = vectors::hex_bytes(text, at, &mut file);
+    let count_at = vectors::next_word(text, at);
+    let area_at = vectors::next_word(text, count_at);
+    let mut area = [0u8; 8192];
+    let t = ape::read_ape_tag(&file[0..n], &mut area);
+    match t {
+        TagRead::NoTag => lists::starts_with(text, count_at, b"none"),
+        TagRead::Items { count, length } => {
+            if lists::starts_with(text, count_at, b"none") {
+                return false;
+            }
+            if count as u64 != vectors::unsigned(text, count_at) {
+                return false;
+            }
+            if 8192 < length {
+                return false;
+            }
+            is_hex(text, area_at, &area[0..length])
+        }
+        TagRead::Refused(_) => false,
+    }
+}
+
+// Whether a call wrote the bytes of the word at this place.
+fn wrote(text: &[u8], at: usize, w: Written, out: &[u8]) -> bool {
+    let Written::Done(n) = w else {
+        return false;
+    };
+    if out.len() < n {
+        return false;
+    }
+    is_hex(text, at, &out[0..n])
+}
+
+// `replace FILE COUNT AREA FILE`.
+fn replace(text: &[u8], at: usize) -> bool {
+    let mut file = [0u8; 2048];
+    let n = vectors::hex_bytes(text, at, &mut file);
+    let count_at = vectors::next_word(text, at);
+    let area_at = vectors::next_word(text, count_at);
+    let mut area = [0u8; 2048];
+    let m = vectors::hex_bytes(text, area_at, &mut area);
+    let count = vectors::unsigned(text, count_at) as usize;
+    let mut out = [0u8; 8192];
+    let w = ape_write::replace_ape_tag(&file[0..n], &area[0..m], count, &mut out);
+    wrote(text, vectors::next_word(text, area_at), w, &out)
+}
+
+// `serialize COUNT AREA TAG`.
+fn serialize(text: &[u8], at: usize) -> bool {
+    let area_at = vectors::next_word(text, at);
+    let mut area = [0u8; 2048];
+    let m = vectors::hex_bytes(text, area_at, &mut area);
+    let count = vectors::unsigned(text, at) as usize;
+    let mut out = [0u8; 8192];
+    let w = ape_write::serialize_ape_tag(&area[0..m], count, &mut out);
+    wrote(text, vectors::next_word(text, area_at), w, &out)
+}
+
+// Whether the answer in the line at this place is the library's.
+fn agrees(text: &[u8], at: usize) -> bool {
+    let from = vectors::next_word(text, at);
+    if lists::starts_with(text, at, b"footer ") {
+        return footer(text, from);
+    }
+    if lists::starts_with(text, at, b"read ") {
+        return read(text, from);
+    }
+    if lists::starts_with(text, at, b"replace ") {
+        return replace(text, from);
+    }
+    if lists::starts_with(text, at, b"serialize ") {
+        return serialize(text, from);
+    }
+    false
+}
+
+fn replay(text: &[u8]) -> Tally {
+    let mut answers: u64 = 0;
+    let mut differ: u64 = 0;
+    let mut at = 0;
+    while at < text.len() {
+        if vectors::is_answer(text, at) {
+            answers = std::num::wrapping_add_u64(answers, 1);
+            if !agrees(text, at) {
+                differ = std::num::wrapping_add_u64(differ, 1);
+            }
+        }
+        at = vectors::next_line(text, at);
+    }
+    Tally { answers, differ }
+}
+
+fn main() {
+    let mut text = vectors::buffer();
+    let n = io::read_full(0, &mut text);
+    vectors::report(b"ape", replay(&text[..n]));
+}

@@ -1,0 +1,116 @@
+-- Laws of `moved` and `split`: where a file is cut, by the tests of the code.
+use Prim.Native.Nat.{ℕ, zero, suc, _+_, _-_, _≤_, _<_}
+use native.Mathlib.Omega.{arith}
+use mathlib.Core.Path.{_≡_, refl, sym, ap, _∙_}
+use mathlib.Core.Bool.{Bool, true, false, _&&_, true≢false}
+use mathlib.Core.List.{List, [], _∷_, _++_}
+use lib.ListN.{length, take, drop, length-append, length-drop, drop-of-length-le}
+use lib.Seq.{length-take-le, take-take, take-all}
+use lib.Dec.{leb}
+use borrow.Author.Tests.{leb-true}
+use Rattle.lists.specs.Bytes.{startsWith}
+use Rattle.lists.specs.Write.{part}
+use Rattle.frame.specs.Tail.{id3v1Mark, standsAt, endsWithId3v1, tagStart}
+use Rattle.frame.specs.declared.TagStart.the-variants.{At as StartAt, Nowhere as NoStart}
+use Rattle.lists.proofs.Wrote.{Wrote}
+use Rattle.lists.proofs.Places.{length-part}
+use Rattle.items.specs.Items.{Item}
+use Rattle.ape.specs.Tag.{Split, findFooter, moved, split, serialize, fileOf, replaced}
+use Rattle.ape.specs.declared.Footer.the-variants.{At, Nowhere}
+use Rattle.ape_write.specs.Answers.{Cuts}
+
+-- an ID3v1 block has 128 bytes
+pub id3v1-long : (s : List ℕ) → endsWithId3v1 s ≡ true → 128 ≤ length s
+unfolding standsAt
+id3v1-long s e = go (leb 128 (length s)) refl
+  where
+    go : (t : Bool) → leb 128 (length s) ≡ t → 128 ≤ length s
+    go true q = leb-true _ _ q
+    go false q = absurd (true≢false (sym e ∙ ap (λ b. b && startsWith id3v1Mark (drop (length s - 128) s)) q))
+
+take-nil : (n : ℕ) → _≡_ {A = List ℕ} (take n []) []
+take-nil zero = refl
+take-nil (suc n) = refl
+
+drop-nil : (n : ℕ) → _≡_ {A = List ℕ} (drop n []) []
+drop-nil zero = refl
+drop-nil (suc n) = refl
+
+-- a part between two places is what is left of the front up to the second
+part-front : (s : List ℕ) (a b : ℕ) → part a b s ≡ drop a (take b s)
+part-front [] a b = ap (take (b - a)) (drop-nil a) ∙ take-nil (b - a) ∙ sym (ap (drop a) (take-nil b) ∙ drop-nil a)
+part-front (x ∷ s) zero b = let z : b - 0 ≡ b = omega arith in rw z
+part-front (x ∷ s) (suc a) zero = let z : 0 - suc a ≡ 0 = omega arith in rw z
+part-front (x ∷ s) (suc a) (suc b) = let z : suc b - suc a ≡ b - a = omega arith in rw z (part-front s a b)
+
+module _ (s : List ℕ) (end : ℕ) (within : end ≤ length s) where
+  long : length (take end s) ≡ end
+  long = length-take-le end s within
+
+  -- the block moves behind the tag
+  pub cut-block : endsWithId3v1 (take end s) ≡ true → (128 ≤ end) × Cuts (moved (take end s) []) s (end - 128) (end - 128) end
+  unfolding moved
+  cut-block e =
+      let h : 128 ≤ end = omega (arith, id3v1-long (take end s) e, long) in (
+        h,
+        rw (e, long) (record {
+          front-is = sym (take-take (end - 128) end s (omega arith));
+          back-is = part-front s (end - 128) end;
+          front-within = omega arith;
+          order = omega arith;
+          within = within;
+        }),
+      )
+
+  -- there is none
+  pub cut-plain : endsWithId3v1 (take end s) ≡ false → Cuts (moved (take end s) []) s end end end
+  unfolding moved
+  cut-plain e =
+      let z : end - end ≡ 0 = omega arith in
+      rw e (record { front-is = refl; back-is = rw z; front-within = within; order = omega arith; within = within })
+
+module _ (s : List ℕ) where
+  -- all is audio
+  pub split-none : findFooter s ≡ Nowhere → split s ≡ moved (take (length s) s) []
+  unfolding split
+  split-none e = rw (e, take-all (length s) s (omega arith))
+
+  module _ (f : ℕ) (at : findFooter s ≡ At f) where
+    pub split-unstarted : tagStart s f ≡ NoStart → split s ≡ moved (take (length s) s) []
+    unfolding split
+    split-unstarted e = rw (at, e, take-all (length s) s (omega arith))
+
+    -- something follows the footer
+    pub split-rest : (a : ℕ) → tagStart s f ≡ StartAt a → a ≤ length s → f + 32 < length s → Cuts (split s) s a (f + 32) (length s)
+    unfolding split moved
+    split-rest a e l h =
+        rw (at, e) (go (drop (f + 32) s) refl)
+      where
+        all : part (f + 32) (length s) s ≡ drop (f + 32) s
+        all = take-all (length s - (f + 32)) (drop (f + 32) s) (omega (arith, length-drop (f + 32) s))
+
+        go : (r : List ℕ) → drop (f + 32) s ≡ r → Cuts (moved (take a s) r) s a (f + 32) (length s)
+        go [] q = absurd (omega (arith, length-drop (f + 32) s, ap length q))
+        go (b ∷ bs) q = record { front-is = refl; back-is = all ∙ q; front-within = l; order = omega arith; within = omega arith }
+
+    -- nothing does
+    pub split-last : (a : ℕ) → tagStart s f ≡ StartAt a → length s ≤ f + 32 → split s ≡ moved (take a s) []
+    unfolding split
+    split-last a e h = rw (at, e, drop-of-length-le s {i = f + 32} h)
+
+-- ---- a file of three parts
+
+-- the end of what was written, by another name
+pub ended : {out w xs : List ℕ} {k : ℕ} → Wrote out 0 w k xs → (m : ℕ) → k ≡ m → Wrote out 0 w m xs
+ended x m e = record { room = x .room; ends = sym e ∙ x .ends; is = x .is }
+
+module _ {s : List ℕ} {front from to : ℕ} (c : Cuts (split s) s front from to) (ts : List Item) where
+  -- it is what stands up to `front`, the tag, and what stands between `from` and `to`
+  pub replaced-is : replaced s ts ≡ take front s ++ (serialize ts ++ part from to s)
+  unfolding replaced fileOf
+  replaced-is = rw (c .front-is, c .back-is)
+
+  pub replaced-length : length (replaced s ts) ≡ front + length (serialize ts) + (to - from)
+  replaced-length =
+      ap length replaced-is
+      ∙ simp (length-append) (omega (arith, length-take-le front s (c .front-within), length-part from to s (c .within)))

@@ -1,0 +1,41 @@
+-- What the faces of crates ape and ape_write answer and leave in their lent numbers. A refusal leaves them.
+use Prim.Native.Nat.{ℕ}
+use Rattle.replies.specs.Refusal.{numberOf}
+use Rattle.ape.specs.declared.FooterFound.{FooterFound}
+use Rattle.ape.specs.declared.FooterFound.the-variants.{At, Nowhere, Refused as NotSearched}
+use Rattle.ape.specs.declared.TagRead.{TagRead}
+use Rattle.ape.specs.declared.TagRead.the-variants.{NoTag, Items, Refused as NotRead}
+use Rattle.ape_write.specs.declared.Written.{Written}
+use Rattle.ape_write.specs.declared.Written.the-variants.{Done, Refused}
+
+-- a search: the reply, whether a footer is there, and its place
+pub record FooterFace : Type 0 where
+  pub reply : ℕ
+  pub there : ℕ
+  pub footer : ℕ
+
+abbrev pub footerFace : FooterFound → ℕ → ℕ → FooterFace
+footerFace (At f) there footer = record { reply = 0; there = 1; footer = f }
+footerFace Nowhere there footer = record { reply = 0; there = 0; footer = 0 }
+footerFace (NotSearched r) there footer = record { reply = numberOf r; there = there; footer = footer }
+
+-- a reading: the reply, whether a tag is there, how many items it has, and how long their area is
+pub record ReadFace : Type 0 where
+  pub reply : ℕ
+  pub there : ℕ
+  pub count : ℕ
+  pub written : ℕ
+
+abbrev pub readFace : TagRead → ℕ → ℕ → ℕ → ReadFace
+readFace NoTag there count written = record { reply = 0; there = 0; count = 0; written = 0 }
+readFace (Items n m) there count written = record { reply = 0; there = 1; count = n; written = m }
+readFace (NotRead r) there count written = record { reply = numberOf r; there = there; count = count; written = written }
+
+-- a call that writes: the reply, and how many bytes
+pub record WrittenFace : Type 0 where
+  pub reply : ℕ
+  pub written : ℕ
+
+abbrev pub writtenFace : Written → ℕ → WrittenFace
+writtenFace (Done n) old = record { reply = 0; written = n }
+writtenFace (Refused r) old = record { reply = numberOf r; written = old }
