@@ -5,10 +5,10 @@ use Rattle.keys.specs.Keys.{upper, upperAll, sameKey, whichOf, keys, whichKey, 
 use Rattle.number.specs.Fields.{before, behind, field}
 use Rattle.number.specs.Reading.{isDigit, digitsFrom, natural, isMinus, unsigned, whole, i32, u8}
 use Rattle.number.specs.Trim.{isSpace, trimLeft, keep, trimRight, trim}
-use Rattle.number.specs.Writing.{places, decimal, signed}
+use Rattle.decimal.specs.Writing.{places, decimal, signed}
 use Rattle.decibels.specs.Gain.{remaining, nearest, fraction, millionths, parseGain, formatGain, shiftGain}
 use Rattle.values.specs.Range.{formatRange, parseRange, shiftRange, leaves, wrapsOut}
-use Rattle.values.specs.Stored.{rangeWrapsOut, shiftStored}
+use Rattle.values.specs.Stored.{kindOf, rangeWrapsOut, shiftStored}
 use Rattle.values.specs.Undo.{formatUndo, parseUndo, undoWraps, accumulated}
 use Rattle.frame.specs.Gain.{adjust}
 use Rattle.frame.specs.Tail.{standsAt, startOf, tagStart}
@@ -20,7 +20,7 @@ use Rattle.calls.specs.Calls.{setPlan, removePlan, staying, shiftItem, s
 use Rattle.calls.specs.Figures.{Figures, Examples}
 
 pub figures : Figures
-unfolding all same startsWith placeOf upper upperAll sameKey whichOf keys whichKey isFrom undoKey minmaxKey before behind field isDigit digitsFrom natural isMinus unsigned whole i32 u8 isSpace trimLeft keep trimRight trim places decimal signed remaining nearest fraction millionths parseGain formatGain shiftGain formatRange parseRange shiftRange leaves wrapsOut rangeWrapsOut shiftStored formatUndo parseUndo undoWraps accumulated adjust standsAt startOf tagStart numberOf classAt run stepOf lossyFrom lossy validFrom valid itemBytes areaBytes headAt head plainHead parse getItem setItem without blockBytes tagBytes serialize findFooter areaAt moved split fileOf replaced fit allValid gateItems passesGate itemsOf tagFits staying shiftItem shiftStoredGain storedUndo booked least greatest shiftedItems levelItems countOf isPeakKey levelPlan others undoPlan
+unfolding all same startsWith placeOf upper upperAll sameKey whichOf keys whichKey isFrom undoKey minmaxKey before behind field isDigit digitsFrom natural isMinus unsigned whole i32 u8 isSpace trimLeft keep trimRight trim places decimal signed remaining nearest fraction millionths parseGain formatGain shiftGain formatRange parseRange shiftRange leaves wrapsOut kindOf rangeWrapsOut shiftStored formatUndo parseUndo undoWraps accumulated adjust standsAt startOf tagStart numberOf classAt run stepOf lossyFrom lossy validFrom valid itemBytes areaBytes headAt head plainHead parse getItem setItem without blockBytes tagBytes serialize findFooter areaAt moved split fileOf replaced fit allValid gateItems passesGate itemsOf tagFits staying shiftItem shiftStoredGain storedUndo booked least greatest shiftedItems levelItems countOf isPeakKey levelPlan others undoPlan
 figures = record {
   undo-n = refl;
   undo-w = refl;
@@ -51,7 +51,7 @@ figures = record {
 }
 
 pub examples : Examples
-unfolding all same startsWith placeOf upper upperAll sameKey whichOf keys whichKey isFrom undoKey minmaxKey isReserved isKey before behind field isDigit digitsFrom natural isMinus unsigned whole i32 u8 isSpace trimLeft keep trimRight trim places decimal signed remaining nearest fraction millionths parseGain formatGain shiftGain formatRange parseRange shiftRange leaves wrapsOut rangeWrapsOut shiftStored formatUndo parseUndo undoWraps accumulated adjust standsAt startOf tagStart numberOf classAt run stepOf validFrom valid itemBytes areaBytes headAt head plainHead parse getItem setItem without blockBytes tagBytes serialize findFooter areaAt moved split fileOf replaced fit allValid gateItems passesGate itemsOf tagFits setPlan removePlan staying shiftItem shiftStoredGain storedUndo booked least greatest shiftedItems levelItems countOf isPeakKey levelPlan others undoPlan
+unfolding all same startsWith placeOf upper upperAll sameKey whichOf keys whichKey isFrom undoKey minmaxKey isReserved isKey before behind field isDigit digitsFrom natural isMinus unsigned whole i32 u8 isSpace trimLeft keep trimRight trim places decimal signed remaining nearest fraction millionths parseGain formatGain shiftGain formatRange parseRange shiftRange leaves wrapsOut kindOf rangeWrapsOut shiftStored formatUndo parseUndo undoWraps accumulated adjust standsAt startOf tagStart numberOf classAt run stepOf validFrom valid itemBytes areaBytes headAt head plainHead parse getItem setItem without blockBytes tagBytes serialize findFooter areaAt moved split fileOf replaced fit allValid gateItems passesGate itemsOf tagFits setPlan removePlan staying shiftItem shiftStoredGain storedUndo booked least greatest shiftedItems levelItems countOf isPeakKey levelPlan others undoPlan
 examples = record {
   two = refl;
   three = refl;

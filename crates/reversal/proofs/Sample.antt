@@ -9,9 +9,9 @@ use Rattle.keys.specs.Keys.{upper, upperAll, sameKey, whichOf, keys, whichKey, 
 use Rattle.number.specs.Fields.{before, behind, field}
 use Rattle.number.specs.Reading.{isDigit, digitsFrom, natural, isMinus, unsigned, whole, i32, u8}
 use Rattle.number.specs.Trim.{isSpace, trimLeft, keep, trimRight, trim}
-use Rattle.number.specs.Writing.{places, decimal, signed}
+use Rattle.decimal.specs.Writing.{places, decimal, signed}
 use Rattle.values.specs.Range.{formatRange, parseRange, shiftRange}
-use Rattle.values.specs.Stored.{shiftStored}
+use Rattle.values.specs.Stored.{kindOf, shiftStored}
 use Rattle.values.specs.Undo.{formatUndo, parseUndo, undoWraps, accumulated}
 use Rattle.frame.specs.Gain.{adjust}
 use Rattle.frame.specs.Tail.{standsAt, startOf, tagStart}
@@ -36,7 +36,7 @@ pub record Ran : Type 0 where
   pub long : length ((run start calls) .file) ≡ 143
 
 pub ran : Ran
-unfolding start calls all same startsWith placeOf upper upperAll sameKey whichOf keys whichKey isFrom undoKey minmaxKey isReserved isKey before behind field isDigit digitsFrom natural isMinus unsigned whole i32 u8 isSpace trimLeft keep trimRight trim places decimal signed formatRange parseRange shiftRange shiftStored formatUndo parseUndo undoWraps accumulated adjust standsAt startOf tagStart numberOf classAt utf8.run stepOf validFrom valid itemBytes areaBytes headAt head plainHead parse getItem setItem without blockBytes tagBytes serialize findFooter areaAt moved split fileOf replaced fit allValid gateItems passesGate itemsOf tagFits setPlan removePlan staying shiftItem shiftStoredGain storedUndo booked least greatest shiftedItems levelItems countOf isPeakKey levelPlan editPlan outcome accepts next run acceptedLevels acceptedEdits
+unfolding start calls all same startsWith placeOf upper upperAll sameKey whichOf keys whichKey isFrom undoKey minmaxKey isReserved isKey before behind field isDigit digitsFrom natural isMinus unsigned whole i32 u8 isSpace trimLeft keep trimRight trim places decimal signed formatRange parseRange shiftRange kindOf shiftStored formatUndo parseUndo undoWraps accumulated adjust standsAt startOf tagStart numberOf classAt utf8.run stepOf validFrom valid itemBytes areaBytes headAt head plainHead parse getItem setItem without blockBytes tagBytes serialize findFooter areaAt moved split fileOf replaced fit allValid gateItems passesGate itemsOf tagFits setPlan removePlan staying shiftItem shiftStoredGain storedUndo booked least greatest shiftedItems levelItems countOf isPeakKey levelPlan editPlan outcome accepts next run acceptedLevels acceptedEdits
 ran = record { levels = refl; edits = refl; long = refl }
 
 -- two level calls are accepted
