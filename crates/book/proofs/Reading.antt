@@ -7,18 +7,16 @@ use mathlib.Core.Option.{Option, none, some}
 use mathlib.Core.List.{List, [], _∷_, _++_, append-assoc, append-nil}
 use lib.ListN.{length, take, drop, length-append}
 use lib.Seq.{drop-append-seam, take-append-seam, take-at, drop-at}
-use lib.Dec.{eqb}
 use borrow.Author.Tests.{le-leb}
 use Rattle.lists.specs.Bytes.{startsWith}
 use Rattle.lists.specs.Le.{readU32}
 use Rattle.lists.proofs.Numbers.{read-drop}
 use Rattle.frame.specs.Tail.{preamble, id3v1Mark, standsAt, endsWithId3v1, tagStart}
-use Rattle.frame.specs.declared.TagStart.{TagStart}
 use Rattle.frame.specs.declared.TagStart.the-variants.{At as StartAt}
 use Rattle.frame.proofs.Tails.{stands-in, stands-before, start-there, start-headed}
 use Rattle.utf8.specs.Utf8.{valid}
 use Rattle.utf8.proofs.Laws.{lossy-valid}
-use Rattle.items.specs.Items.{Item, itemBytes, areaBytes, sizeOf}
+use Rattle.items.specs.Items.{Item, itemBytes, areaBytes}
 use Rattle.items.proofs.Area.{AllSane, parse-area, head-item, length-item, plain}
 use Rattle.ape.specs.Tag.{blockBytes, headerFlags, footerFlags, tagBytes, serialize, findFooter, versionAt, sizeAt, countAt, areaAt, readItems, readTag, moved, split, fileOf, replaced}
 use Rattle.ape.specs.declared.Footer.{Footer}
@@ -76,7 +74,7 @@ record Numbers (s : List ℕ) (f z n flags : ℕ) : Type 0 where
   count-is : countAt s f ≡ n
   flags-are : readU32 s (f + 20) ≡ flags
 
-at-seam : (a b : List ℕ) (i : ℕ) → readU32 (a ++ b) (length a + i) ≡ readU32 b i
+pub at-seam : (a b : List ℕ) (i : ℕ) → readU32 (a ++ b) (length a + i) ≡ readU32 b i
 at-seam a b i = sym (read-drop (a ++ b) (length a) i) ∙ ap (λ (l : List ℕ). readU32 l i) (drop-append-seam a b)
 
 -- read back

@@ -1,10 +1,10 @@
 -- Law B: what replacement wrote is read back, and a settled file is exactly the file of a sound book.
-use Prim.Native.Nat.{ℕ, zero, suc, _+_, _-_, _≤_, _<_}
+use Prim.Native.Nat.{ℕ, _+_, _-_, _≤_, _<_}
 use native.Mathlib.Omega.{arith}
 use mathlib.Core.Path.{_≡_, refl, sym, ap, _∙_}
 use mathlib.Core.Logic.{_↔_, _⊎_, inl, inr}
-use mathlib.Core.Bool.{Bool, true, false, not, _&&_, cond, false≢true}
-use mathlib.Core.Option.{Option, none, some, Option·some-injective}
+use mathlib.Core.Bool.{Bool, true, false, _&&_, false≢true}
+use mathlib.Core.Option.{Option, none, some}
 use mathlib.Core.List.{List, [], _∷_, _++_}
 use lib.ListN.{length, take, drop, length-append, length-drop, length-take, take-append-drop}
 use lib.Seq.{length-take-le, drop-append-le, drop-at, drop-length}
@@ -21,13 +21,13 @@ use Rattle.frame.proofs.Tails.{stands-in, start-there}
 use Rattle.items.specs.Items.{Item, areaBytes, parse, itemsIn}
 use Rattle.items.proofs.Area.{AllSane, count-items, area-length}
 use Rattle.items.proofs.ItemLaws.{parse-sane}
-use Rattle.ape.specs.Tag.{blockBytes, tagBytes, serialize, findFooter, footed, started, sizeAt, countAt, areaAt, readTag, Split, moved, split, fileOf, replaced}
+use Rattle.ape.specs.Tag.{blockBytes, tagBytes, serialize, findFooter, started, sizeAt, countAt, areaAt, readTag, Split, moved, split, fileOf, replaced}
 use Rattle.ape.specs.declared.Footer.{Footer}
 use Rattle.ape.specs.declared.Footer.the-variants.{At, Nowhere}
 use Rattle.ape.proofs.Files.{stands-long, footer-within}
 use Rattle.calls.specs.Gate.{hasStart, countsFooter, isVersion2, countFits, areaFits, fit, allValid, gateItems, passesGate, itemsOf}
 use Rattle.book.specs.Book.{settled, Book, bookOf, bookFile}
-use Rattle.calls.proofs.Lists.{both, and-of, cond-some, provided-some}
+use Rattle.calls.proofs.Lists.{both, cond-some, provided-some}
 use Rattle.book.proofs.Sound.{Back, bare, id3, Good, Sound}
 use Rattle.book.proofs.Reading.{law-split, law-gate, law-passes, law-items, law-replaced, law-read, asRead}
 
@@ -159,6 +159,10 @@ module _ (s : List ℕ) (q : Quiet s) (ts : List Item) (g : Good ts) where
   unfolding replaced
   gate-replaced = law-gate _ ts _ (quiet-sound s q ts g)
 
+  pub items-replaced : itemsOf (replaced s ts) ≡ ts
+  unfolding replaced
+  items-replaced = law-items _ ts _ (quiet-sound s q ts g)
+
   -- splitting it gives the file's own front and back
   pub split-replaced : split (replaced s ts) ≡ split s
   unfolding replaced
@@ -225,14 +229,11 @@ gated s f ts e g =
       good = record { sane = x; valid = v; few = omega arith; small = omega (arith, area-long s f) };
     }
 
--- ---- settled files
+nothing : Good []
+unfolding areaBytes allValid
+nothing = record { sane = tt; valid = refl; few = omega arith; small = omega arith }
 
--- what settled says
-record Settled (s : List ℕ) : Type 0 where
-  passes : gateItems s ≡ some (itemsOf s)
-  same-file : replaced s (itemsOf s) ≡ s
-  quiet : standsAt 32 preamble ((split s) .front) ≡ false
-
+-- the items of a file that the gate passes can be written
 gate-some : (s : List ℕ) → passesGate s ≡ true → gateItems s ≡ some (itemsOf s)
 unfolding passesGate itemsOf
 gate-some s e = go (gateItems s) refl e
@@ -241,12 +242,38 @@ gate-some s e = go (gateItems s) refl e
     go none q e = absurd (false≢true e)
     go (some ts) q e = refl
 
+gate-nothing : (s : List ℕ) → findFooter s ≡ Nowhere → itemsOf s ≡ []
+unfolding itemsOf gateItems
+gate-nothing s e = rw e
+
+pub gate-good : (s : List ℕ) → passesGate s ≡ true → Good (itemsOf s)
+gate-good s e = go (findFooter s) refl
+  where
+    go : (x : Footer) → findFooter s ≡ x → Good (itemsOf s)
+    go Nowhere q = rw (gate-nothing s q) nothing
+    go (At f) q = gated s f (itemsOf s) q (gate-some s e) .good
+
+-- replacing by a file's own items twice is replacing once
+pub replaced-twice : (s : List ℕ) → Quiet s → passesGate s ≡ true
+    → replaced (replaced s (itemsOf s)) (itemsOf (replaced s (itemsOf s))) ≡ replaced s (itemsOf s)
+replaced-twice s q e =
+    let g = gate-good s e in
+    rw (items-replaced s q (itemsOf s) g) (replaced-replaced s q (itemsOf s) g (itemsOf s))
+
+-- ---- settled files
+
+-- what settled says
+record Settled (s : List ℕ) : Type 0 where
+  passes : passesGate s ≡ true
+  same-file : replaced s (itemsOf s) ≡ s
+  quiet : standsAt 32 preamble ((split s) .front) ≡ false
+
 settled-says : (s : List ℕ) → settled s ≡ true → Settled s
 unfolding settled
 settled-says s e =
     let (a, b) = both (passesGate s) _ e in
     let (c, d) = both (same (replaced s (itemsOf s)) s) _ b in
-    record { passes = gate-some s a; same-file = same-true _ _ c; quiet = not-true _ d }
+    record { passes = a; same-file = same-true _ _ c; quiet = not-true _ d }
 
 stands-starts : (n : ℕ) (p s : List ℕ) → standsAt n p s ≡ true → startsWith p (drop (length s - n) s) ≡ true
 unfolding standsAt
@@ -298,37 +325,31 @@ quiet-end p rest ts h e = go (endsWithId3v1 p) refl
     go true t = absurd (swapped p rest ts h t (rw t at e))
     go false t = rw t nil-quiet
 
--- the items of a settled file, and that no footer hides its tag
-settled-good : (s : List ℕ) → Settled s → Quiet s × Good (itemsOf s)
-unfolding replaced areaBytes allValid
-settled-good s h = go (where-is s)
+-- no footer hides the tag of a settled file
+settled-quiet : (s : List ℕ) → Settled s → Quiet s
+unfolding replaced
+settled-quiet s h = go (where-is s)
   where
-    no-items : findFooter s ≡ Nowhere → itemsOf s ≡ []
-    no-items e = sym (Option·some-injective [] (itemsOf s) (unfold gateItems in rw e at (h .passes)))
-
-    nothing : Good []
-    nothing = record { sane = tt; valid = refl; few = omega arith; small = omega arith }
-
-    go : Where s → Quiet s × Good (itemsOf s)
-    go (nowhere a e) = (record { front-quiet = h .quiet; back-quiet = rw (split-none s e) (quiet-none s a) }, rw (no-items e) nothing)
+    go : Where s → Quiet s
+    go (nowhere a e) = record { front-quiet = h .quiet; back-quiet = rw (split-none s e) (quiet-none s a) }
     go (before a b t e) =
-        let g = gated s (length s - 160) (itemsOf s) e (h .passes) in
+        let g = gated s (length s - 160) (itemsOf s) e (gate-some s (h .passes)) in
         let (l, _) = last-id3 s t in
         let m : split s ≡ record { front = take (g .start) s; back = drop (length s - 128) s }
         = split-started s (length s - 160) (g .start) e (g .starts) ∙ ap (moved (take (g .start) s)) (rest-before s b) ∙ move-id3 _ _ l in
-        (record { front-quiet = h .quiet; back-quiet = rw m (last-quiet s t a) }, g .good)
+        record { front-quiet = h .quiet; back-quiet = rw m (last-quiet s t a) }
     go (at-end a e) =
-        let g = gated s (length s - 32) (itemsOf s) e (h .passes) in
+        let g = gated s (length s - 32) (itemsOf s) e (gate-some s (h .passes)) in
         let k : 32 ≤ length s = stands-long 32 preamble s a in
         let p : List ℕ = take (g .start) s in
         let m : split s ≡ moved p [] = split-started s (length s - 32) (g .start) e (g .starts) ∙ ap (moved p) (rest-end s a) in
         let all : fileOf ((moved p []) .front) (itemsOf s) ((moved p []) .back) ≡ p ++ drop (g .start) s
         = (rw m at (h .same-file)) ∙ sym (take-append-drop (g .start) s) in
-        (record { front-quiet = h .quiet; back-quiet = rw m (quiet-end p (drop (g .start) s) (itemsOf s) (rw length-drop (omega (arith, g .room))) all) }, g .good)
+        record { front-quiet = h .quiet; back-quiet = rw m (quiet-end p (drop (g .start) s) (itemsOf s) (rw length-drop (omega (arith, g .room))) all) }
 
 -- a settled file is the file of its book, which is sound
 pub settled-sound : (s : List ℕ) → settled s ≡ true → Sound ((split s) .front) (itemsOf s) ((split s) .back)
-settled-sound s e = let (q, g) = settled-good s (settled-says s e) in quiet-sound s q (itemsOf s) g
+settled-sound s e = let h = settled-says s e in quiet-sound s (settled-quiet s h) (itemsOf s) (gate-good s (h .passes))
 
 pub settled-book : (s : List ℕ) → settled s ≡ true → bookFile (bookOf s) ≡ s
 unfolding replaced bookFile bookOf

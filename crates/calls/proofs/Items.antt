@@ -3,8 +3,8 @@ use Prim.Native.Nat.{ℕ, _+_}
 use native.Mathlib.Omega.{arith}
 use mathlib.Core.Path.{_≡_, refl, sym, ap, _∙_}
 use mathlib.Core.Bool.{Bool, true, false, _&&_, cond, true≢false}
-use mathlib.Core.Option.{Option, none, some, Option·map, Option·getD}
-use mathlib.Core.List.{List, [], _∷_, _++_, map}
+use mathlib.Core.Option.{Option, none, some, Option·getD}
+use mathlib.Core.List.{List, [], _∷_, map}
 use lib.Dec.{leb}
 use lib.IntN.{ℤ}
 use borrow.Author.Tests.{le-leb}
@@ -15,20 +15,17 @@ use Rattle.frame.specs.declared.GainMode.the-variants.{Saturating, Wrapping}
 use Rattle.utf8.specs.Utf8.{valid}
 use Rattle.keys.specs.Keys.{upper, upperAll, sameKey, whichKey, isFrom, isMp3gainKey, isUndone, undoKey, minmaxKey, printable}
 use Rattle.keys.proofs.Keys.{key-sym, from-caseless, undone-eight, undo-eight, not-undo, printable-whole}
-use Rattle.decibels.specs.Gain.{parseGain, shiftGain}
-use Rattle.decibels.specs.declared.Millionths.{Millionths}
-use Rattle.decibels.proofs.ReadBack.{plain-gain}
-use Rattle.values.specs.Range.{parseRange, shiftRange, wrapsOut}
-use Rattle.values.specs.declared.Kind as k
-use Rattle.values.specs.Stored.{isRange, isGain, kindOf, wrapsOutBy, rangeWrapsOut, shiftBy, shiftStored}
-use Rattle.values.specs.declared.Range.{Range}
+use Rattle.values.specs.Stored.{kindOf, wrapsOutBy, rangeWrapsOut, shiftStored}
+use Rattle.values.specs.declared.Kind.the-variants.{Other}
+use Rattle.values.proofs.ReadBack.{plain-undo, plain-range}
+use Rattle.values.proofs.Texts.{stored-short}
 use Rattle.items.specs.Items.{Item, getItem, setItem, without}
 use Rattle.items.proofs.Area.{AllSane}
 use Rattle.items.proofs.ItemLaws.{set-inside, without-less, sane-without, sane-set}
 use Rattle.calls.specs.Gate.{allValid}
 use Rattle.calls.specs.Calls.{Level, staying, shiftItem, shiftStoredGain, booked, wraps, rangeOf, sameStep, shiftedItems, levelItems, countOf, others}
 use Rattle.calls.proofs.Lists.{both, and-of}
-use Rattle.calls.proofs.Texts.{plain-valid, plain-undo, plain-range}
+use Rattle.calls.proofs.Texts.{plain-valid}
 
 -- ---- items of none of the eight keys
 
@@ -84,15 +81,22 @@ valid-set key value (t ∷ ts) k v h = go (sameKey key (t .key)) refl (valid-set
 
 -- ---- the shift of stored values: it touches only items of the eight keys
 
-out-eight : (z : ℤ) (key value : List ℕ) → rangeWrapsOut key value z ≡ true → isMp3gainKey key ≡ true
-unfolding rangeWrapsOut kindOf isFrom
-out-eight z key value e = go (whichKey key) e
+-- a key that is none of the eight holds no value that is shifted or dropped
+other-kind : (key : List ℕ) → isMp3gainKey key ≡ false → kindOf key ≡ Other
+unfolding kindOf isFrom
+other-kind key e = go (whichKey key) refl e
   where
-    go : (o : Option ℕ)
-        → wrapsOutBy (found o k.the-variants.Other (λ i. cond (isRange i) k.the-variants.Range (cond (isGain i) k.the-variants.Gain k.the-variants.Other))) value z ≡ true
-        → found o false (λ i. leb 0 i) ≡ true
-    go none e = e
-    go (some i) e = le-leb 0 i (omega arith)
+    go : (o : Option ℕ) → whichKey key ≡ o → found o false (λ i. leb 0 i) ≡ false → kindOf key ≡ Other
+    go none q e = rw q
+    go (some i) q e = absurd (true≢false (sym (le-leb 0 i (omega arith)) ∙ e))
+
+out-eight : (z : ℤ) (key value : List ℕ) → rangeWrapsOut key value z ≡ true → isMp3gainKey key ≡ true
+unfolding rangeWrapsOut
+out-eight z key value e = go (isMp3gainKey key) refl
+  where
+    go : (b : Bool) → isMp3gainKey key ≡ b → isMp3gainKey key ≡ true
+    go true q = q
+    go false q = absurd (true≢false (sym e ∙ ap (λ k. wrapsOutBy k value z) (other-kind key q)))
 
 staying-others : (m : GainMode) (z : ℤ) (ts : List Item) → others (staying m z ts) ≡ others ts
 unfolding others staying without
@@ -106,12 +110,8 @@ staying-others Wrapping z (t ∷ ts) = go (rangeWrapsOut (t .key) (t .value) z) 
 
 -- an item of another key stays as it is
 shift-other : (z : ℤ) (t : Item) → isMp3gainKey (t .key) ≡ false → shiftItem z t ≡ t
-unfolding shiftItem shiftStored kindOf isFrom
-shift-other z t e = go (whichKey (t .key)) refl e
-  where
-    go : (o : Option ℕ) → whichKey (t .key) ≡ o → found o false (λ i. leb 0 i) ≡ false → shiftItem z t ≡ t
-    go none q e = rw q
-    go (some i) q e = absurd (true≢false (sym (le-leb 0 i (omega arith)) ∙ e))
+unfolding shiftItem shiftStored
+shift-other z t e = rw (other-kind (t .key) e)
 
 map-others : (z : ℤ) (ts : List Item) → others (map (shiftItem z) ts) ≡ others ts
 unfolding others without
@@ -128,30 +128,12 @@ shift-others m z ts = map-others z (staying m z ts) ∙ staying-others m z ts
 
 -- ---- and its texts are UTF-8
 
-range-valid : (z : ℤ) (s : List ℕ) → valid s ≡ true → valid (Option·getD (shiftRange z s) s) ≡ true
-unfolding shiftRange
-range-valid z s v = go (parseRange s) refl
-  where
-    go : (o : Option Range) → parseRange s ≡ o → valid (Option·getD (shiftRange z s) s) ≡ true
-    go none e = rw e v
-    go (some r) e = rw e (plain-valid _ (plain-range _))
-
-gain-valid : (z : ℤ) (s : List ℕ) → valid s ≡ true → valid (Option·getD (shiftGain z s) s) ≡ true
-unfolding shiftGain
-gain-valid z s v = go (parseGain s) refl
-  where
-    go : (o : Option Millionths) → parseGain s ≡ o → valid (Option·getD (shiftGain z s) s) ≡ true
-    go none e = rw e v
-    go (some g) e = rw e (plain-valid _ (plain-gain _))
-
 value-valid : (z : ℤ) (key s : List ℕ) → valid s ≡ true → valid (Option·getD (shiftStored key s z) s) ≡ true
-unfolding shiftStored
-value-valid z key s v = go (kindOf key)
+value-valid z key s v = go (shiftStored key s z) refl
   where
-    go : (kind : k.Kind) → valid (Option·getD (shiftBy kind s z) s) ≡ true
-    go k.the-variants.Range = range-valid z s v
-    go k.the-variants.Gain = gain-valid z s v
-    go k.the-variants.Other = v
+    go : (o : Option (List ℕ)) → shiftStored key s z ≡ o → valid (Option·getD o s) ≡ true
+    go none e = v
+    go (some w) e = plain-valid w (stored-short key s z w e .plain)
 
 map-valid : (z : ℤ) (ts : List Item) → allValid ts ≡ true → allValid (map (shiftItem z) ts) ≡ true
 unfolding shiftItem allValid

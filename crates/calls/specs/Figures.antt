@@ -1,19 +1,20 @@
 -- Document 01's bench figures marked P, and the small examples of its table of replies, over the definitions that the contracts cite.
-use Prim.Native.Nat.{ℕ, _+_}
+use Prim.Native.Nat.{ℕ}
 use mathlib.Core.Path.{_≡_}
 use mathlib.Core.Bool.{true, false}
-use mathlib.Core.Option.{Option, none, some}
+use mathlib.Core.Option.{some}
 use mathlib.Core.List.{List, [], _∷_, _++_}
 use lib.ListN.{length, replicate}
 use lib.IntN.{ℤ, pos, negsuc}
 use Rattle.lists.specs.Bytes.{ascii}
 use Rattle.lists.specs.Le.{u32le}
-use Rattle.replies.specs.Refusal.{Plan, no, yes}
+use Rattle.replies.specs.Refusal.{no, yes}
 use Rattle.replies.specs.declared.Refusal.the-variants.{
   StepOutOfRange,
   BadKey,
   NotUtf8,
   NoRoom,
+  TagTooLarge,
   NoLeftGains,
   NotEditable,
   FlagDiffers,
@@ -125,10 +126,17 @@ pub record Examples : Type 0 where
   -- 5: 75 bytes for a 76-byte tag; 76 are enough, and the key is spelled in upper case
   pub five : setPlan [] (ascii "ab") (ascii "c") 75 ≡ no NoRoom
   pub five-not : setPlan [] (ascii "ab") (ascii "c") 76 ≡ yes (serialize ab)
+  -- 6: a 257th item
+  pub six : setPlan (serialize (replicate 256 (item (ascii "AB") (ascii "c")))) (ascii "CD") (ascii "e") 10000 ≡ no TagTooLarge
   -- 7: left list empty
   pub seven : levelPlan [] [] (10 ∷ []) fives 1000 ≡ no NoLeftGains
   -- 8: footer version 1000
   pub eight : removePlan version1000 (ascii "AB") 1000 ≡ no NotEditable
+  pub eight-utf8 : removePlan (serialize (item (ascii "AB") (0xFF ∷ []) ∷ [])) (ascii "CD") 1000 ≡ no NotEditable
+  -- every match is removed, and nothing is written for no items
+  pub removed : removePlan (0x11 ∷ serialize (item (ascii "ab") (ascii "1") ∷ item (ascii "CD") (ascii "2") ∷ item (ascii "AB") (ascii "3") ∷ [])) (ascii "aB") 1000
+      ≡ yes (0x11 ∷ serialize (item (ascii "CD") (ascii "2") ∷ []))
+  pub removed-all : removePlan (0x11 ∷ serialize ab) (ascii "aB") 1 ≡ yes (0x11 ∷ [])
   -- 9: stored `+003,+003,N`, call W
   pub nine : levelPlan (serialize (undoItem (ascii "+003,+003,N"))) (10 ∷ []) [] (by (pos 1) (pos 1) Wrapping) 1000 ≡ no FlagDiffers
   -- 10: empty file

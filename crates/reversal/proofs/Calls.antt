@@ -1,19 +1,17 @@
 -- Laws C and D: on the file of a sound book each call answers by the table, and an accepted one gives the file of the changed book.
-use Prim.Native.Nat.{ℕ, zero, suc, _+_, _≤_, _<_}
+use Prim.Native.Nat.{ℕ, _+_, _≤_}
 use native.Mathlib.Omega.{arith}
 use mathlib.Core.Path.{_≡_, refl, sym, ap, _∙_}
-use mathlib.Core.Bool.{Bool, true, false, _&&_, cond}
-use mathlib.Core.Option.{Option, none, some, Option·map, Option·getD}
+use mathlib.Core.Bool.{Bool, true, false}
+use mathlib.Core.Option.{Option, none, some, Option·map}
 use mathlib.Core.List.{List, [], _∷_, _++_}
 use lib.ListN.{length, length-append}
 use lib.Dec.{leb}
-use lib.IntN.{ℤ}
 use borrow.Author.Tests.{leb-true, le-leb}
-use Rattle.lists.specs.Bytes.{all, same, placeOf}
-use Rattle.lists.specs.Choice.{found, isSome}
+use Rattle.lists.specs.Bytes.{all}
+use Rattle.lists.specs.Choice.{found}
 use Rattle.replies.specs.Limits.{fileLimit, countLimit, areaLimit}
-use Rattle.replies.specs.Refusal.{Test, need, refusalOf, Plan, no, yes, planned}
-use Rattle.replies.specs.declared.Refusal.{Refusal}
+use Rattle.replies.specs.Refusal.{Test, need, refusalOf, yes, planned}
 use Rattle.replies.specs.declared.Refusal.the-variants.{
   FileTooLong,
   StepOutOfRange,
@@ -24,28 +22,24 @@ use Rattle.replies.specs.declared.Refusal.the-variants.{
   NoLeftGains,
   NotEditable,
   FlagDiffers,
-  NoUndo,
   UndoOutOfRange,
 }
 use Rattle.replies.proofs.Order.{AllHold, all-held, passed, done}
-use Rattle.frame.specs.declared.GainMode.{GainMode}
 use Rattle.utf8.specs.Utf8.{valid}
-use Rattle.keys.specs.Keys.{upper, upperAll, sameKey, isMp3gainKey, isUndone, undoKey, minmaxKey, isKey, printable}
-use Rattle.keys.proofs.Keys.{same-caseless, from-caseless, undone-eight, undo-eight, not-undo, printable-whole, printable-upper, key-printable}
-use Rattle.values.specs.Undo.{formatUndo}
-use Rattle.values.specs.Range.{formatRange}
-use Rattle.items.specs.Items.{Item, itemBytes, areaBytes, getItem, setItem, without, removeItem}
+use Rattle.keys.specs.Keys.{upperAll, sameKey, isMp3gainKey, undoKey, minmaxKey, isKey, printable}
+use Rattle.keys.proofs.Keys.{same-caseless, from-caseless, not-undo, printable-whole, printable-upper, key-printable}
+use Rattle.items.specs.Items.{Item, itemBytes, areaBytes, setItem, without, removeItem}
 use Rattle.items.proofs.Area.{length-item}
-use Rattle.items.proofs.ItemLaws.{get-set-same, get-set-other, get-without, set-outside, set-inside, without-without, without-less, count-without, area-without, sane-without, sane-set}
-use Rattle.ape.specs.Tag.{tagBytes, serialize, fileOf, replaced}
+use Rattle.items.proofs.ItemLaws.{get-set-same, get-set-other, get-without, set-outside, without-without, count-without, area-without, sane-without, sane-set}
+use Rattle.ape.specs.Tag.{tagBytes, serialize, fileOf}
 use Rattle.ape.specs.Answers.{lentFits, roomFor, hasRoom}
-use Rattle.calls.specs.Gate.{allValid, passesGate, itemsOf, tagFits}
-use Rattle.calls.specs.Calls.{Level, Levelled, adjusted, storedUndo, agrees, booked, numbersFit, wraps, sameStep, shiftStoredGain, shiftedItems, levelItems, rangeOf, countOf, isPeakKey, isThere, stepsFit, others, undoneLeft, undoneRight, setPlan, removePlan, levelPlan, undoPlan}
+use Rattle.calls.specs.Gate.{tagFits}
+use Rattle.calls.specs.Calls.{Level, Levelled, adjusted, storedUndo, agrees, booked, numbersFit, levelItems, countOf, isPeakKey, isThere, stepsFit, others, undoneLeft, undoneRight, setPlan, removePlan, levelPlan, undoPlan}
 use Rattle.calls.proofs.Lists.{both, and-of}
 use Rattle.book.proofs.Sound.{Good, Sound}
 use Rattle.book.proofs.Reading.{length-block, law-passes, law-items, law-replaced}
 use Rattle.calls.proofs.Texts.{plain-valid}
-use Rattle.calls.proofs.Items.{not-by-undo, valid-without, valid-set, key-facts, level-others, level-sane, level-valid}
+use Rattle.calls.proofs.Items.{not-by-undo, valid-without, valid-set, key-facts, level-sane, level-valid}
 use Rattle.reversal.specs.Run.{Edit, set, remove, keyOf, editItems, editPlan, onLeft, onRight}
 use Rattle.reversal.proofs.Levels.{Undo, readUndo, undoIn, bookedBy, booked-is, undo-back, undoneBy}
 

@@ -1,25 +1,22 @@
 -- Demand 3: a list of calls, and the undo after it.
-use Prim.Native.Nat.{ℕ, zero, suc, _+_, _≤_, _<_}
-use native.Mathlib.Omega.{arith}
+use Prim.Native.Nat.{ℕ, _≤_, _<_}
 use mathlib.Core.Path.{_≡_, refl, sym, ap, _∙_, subst}
 use mathlib.Core.Logic.{_↔_, _⊎_, inl, inr}
 use mathlib.Core.Bool.{Bool, true, false, true≢false}
-use mathlib.Core.Option.{Option, none, some, Option·map}
+use mathlib.Core.Option.{none, some}
 use mathlib.Core.List.{List, [], _∷_, _++_, map}
 use lib.ListN.{length, getD, length-map}
-use lib.IntN.{ℤ, pos, _+ℤ_}
-use Rattle.lists.specs.Bytes.{Small}
 use Rattle.replies.specs.Limits.{fileLimit}
 use Rattle.replies.specs.Refusal.{refusalOf, Plan, no, yes}
 use Rattle.replies.proofs.Order.{done}
 use Rattle.frame.specs.declared.GainMode.{GainMode}
 use Rattle.frame.specs.declared.GainMode.the-variants.{Wrapping}
 use Rattle.frame.specs.Gain.{adjust}
-use Rattle.frame.specs.Steps.{Lands, InRange, Kept}
+use Rattle.frame.specs.Steps.{InRange, Kept}
 use Rattle.frame.proofs.GainLists.{backAll, each-back, length-backAll, getD-map}
 use Rattle.keys.specs.Keys.{isMp3gainKey}
 use Rattle.items.specs.Items.{Item}
-use Rattle.ape.specs.Tag.{split, fileOf}
+use Rattle.ape.specs.Tag.{fileOf}
 use Rattle.calls.specs.Gate.{itemsOf}
 use Rattle.calls.specs.Calls.{Level, Levelled, adjusted, storedUndo, levelItems, isThere, others, levelTests, levelGives, levelPlan, undoPlan}
 use Rattle.book.specs.Book.{Book, bookOf, bookFile}
@@ -27,9 +24,9 @@ use Rattle.reversal.specs.Run.{Edit, keyOf, editItems, editPlan, feed, C
 use Rattle.book.proofs.Sound.{Sound}
 use Rattle.book.proofs.Reading.{law-items}
 use Rattle.book.proofs.Settled.{settled-sound, settled-book}
-use Rattle.reversal.specs.Demand.{Apart, undoAfter, undoneOn, Given, Restored, Demand3}
+use Rattle.reversal.specs.Demand.{Apart, undoneOn, Given, Restored, Demand3}
 use Rattle.calls.proofs.Items.{none-dropped, none-got, level-others}
-use Rattle.reversal.proofs.Levels.{Undo, undoIn, bookedBy, Fair, fair, Desk, gains, levelDesk, undoneBy, steps, AllOf, Chain, perform, Reversed, performed}
+use Rattle.reversal.proofs.Levels.{undoIn, bookedBy, Fair, fair, Desk, gains, levelDesk, undoneBy, steps, AllOf, Chain, perform, Reversed, performed}
 use Rattle.reversal.proofs.Calls.{sound-without, EditPasses, edit-passes, edit-accepted, edit-sound, edit-others, edit-stored, edit-fewer, LevelPasses, gainsTo, level-stored, level-passes, level-gives, level-sound, Undone, undo-gives}
 
 -- the state's file is the book's file with more items, all of them of the eight keys

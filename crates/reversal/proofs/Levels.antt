@@ -1,11 +1,10 @@
 -- Level calls on numbers alone: the stored undo item, the accepted calls in a row, and what undo by the stored item does.
 use mathlib.Core.Path.{_≡_, refl, sym, ap, _∙_, subst}
-use mathlib.Core.Bool.{Bool, true, false, not, _&&_}
+use mathlib.Core.Bool.{true}
 use mathlib.Core.Option.{Option, none, some, Option·map, Option·getD}
 use mathlib.Core.List.{List, [], _∷_, map}
-use Prim.Native.Nat.{ℕ, _<_, min}
+use Prim.Native.Nat.{ℕ, _<_}
 use native.Mathlib.Omega.{arith}
-use lib.Dec.{ltb}
 use lib.IntN.{ℤ, pos, negsuc, negℤ, _+ℤ_, _-ℤ_, +ℤ-assoc, +ℤ-idl, +ℤ-idr, negℤ-+ℤ}
 use lib.Signed.{mag}
 use borrow.Author.Tests.{ltb-true, not-true}
@@ -15,16 +14,13 @@ use Rattle.frame.specs.declared.GainMode.the-variants.{Saturating, Wrapping}
 use Rattle.frame.specs.Gain.{modeOf, adjust}
 use Rattle.frame.specs.Steps.{sum}
 use Rattle.frame.proofs.GainLists.{afterAll, backAll}
-use Rattle.number.specs.Fields.{before, behind, field}
-use Rattle.number.specs.Trim.{trimLeft, trimRight, trim}
-use Rattle.number.specs.Reading.{natural, unsigned, whole, i32}
 use Rattle.values.specs.declared.UndoValues.{UndoValues}
 use Rattle.values.specs.Undo.{formatUndo, parseUndo, undoWraps, sat32, accumulated}
 use Rattle.items.specs.Items.{Item}
 use Rattle.calls.specs.Calls.{Level, storedUndo, agrees, booked, isUndoNumber, numbersFit, wraps}
 use Rattle.reversal.specs.Run.{Side, onLeft, onRight, stepOn}
 use Rattle.calls.proofs.Lists.{both}
-use Rattle.calls.proofs.Texts.{flag-written, numbers-written}
+use Rattle.values.proofs.ReadBack.{undo-none, undo-back as text-back}
 
 -- ---- an undo item as numbers
 
@@ -59,8 +55,8 @@ bookedBy o l = record { left = accumulate onLeft o l; right = accumulate onRight
 -- what level stores
 booked-text : (o : Option (List ℕ)) (l : Level)
     → accumulated (Option·getD o []) (l .left) (l .right) ≡ record { left = accumulate onLeft (Option·map readUndo o) l; right = accumulate onRight (Option·map readUndo o) l }
-unfolding accumulated accumulate readUndo parseUndo field before behind i32 trim trimLeft trimRight whole natural unsigned
-booked-text none l = refl
+unfolding accumulated accumulate readUndo
+booked-text none l = rw (undo-none .0)
 booked-text (some s) l = refl
 
 pub booked-is : (l : Level) (ts : List Item) → booked l ts ≡ record { left = accumulate onLeft (undoIn ts) l; right = accumulate onRight (undoIn ts) l }
@@ -90,7 +86,8 @@ pub undo-back : (u : UndoValues) (m : GainMode) → numbersFit u ≡ true
 unfolding readUndo
 undo-back u m e =
     let (a, b) = both (isUndoNumber (u .left)) (isUndoNumber (u .right)) e in
-    rw (numbers-written (u .left) (u .right) (wraps m) (number-small (u .left) a) (number-small (u .right) b), flag-written (u .left) (u .right) (wraps m), mode-back m)
+    let (n, f) = text-back (u .left) (u .right) (wraps m) (number-small (u .left) a) (number-small (u .right) b) in
+    rw (n, f, mode-back m)
 
 -- ---- what acceptance says
 

@@ -1,8 +1,8 @@
 -- Demand 3 is not empty: the sample meets its terms, by computation, and so the theorem speaks of it.
-use Prim.Native.Nat.{ℕ, zero, suc, _≤_, _<_}
+use Prim.Native.Nat.{ℕ}
 use native.Mathlib.Omega.{arith}
 use mathlib.Core.Path.{_≡_, refl, sym, ap, _∙_}
-use mathlib.Core.List.{List, [], _∷_}
+use mathlib.Core.List.{[], _∷_}
 use lib.ListN.{length}
 use Rattle.lists.specs.Bytes.{ascii, all, same, startsWith, placeOf}
 use Rattle.keys.specs.Keys.{upper, upperAll, sameKey, whichOf, keys, whichKey, isFrom, undoKey, minmaxKey, isReserved, isKey}
@@ -24,7 +24,7 @@ use Rattle.calls.specs.Gate.{fit, allValid, gateItems, passesGate, itemsOf, tag
 use Rattle.calls.specs.Calls.{setPlan, removePlan, staying, shiftItem, shiftStoredGain, storedUndo, booked, least, greatest, shiftedItems, levelItems, countOf, isPeakKey, levelPlan}
 use Rattle.calls.specs.Figures.{fives}
 use Rattle.book.specs.Book.{settled}
-use Rattle.reversal.specs.Run.{set, remove, Side, onLeft, onRight, editPlan, outcome, accepts, next, run, acceptedLevels, acceptedEdits}
+use Rattle.reversal.specs.Run.{set, remove, onLeft, onRight, editPlan, outcome, accepts, next, run, acceptedLevels, acceptedEdits}
 use Rattle.reversal.specs.Demand.{Apart, Given, Restored, Demand3}
 use Rattle.reversal.specs.Sample.{start, apartBy, calls}
 use Rattle.reversal.proofs.Demand.{demand3}

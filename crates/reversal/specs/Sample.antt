@@ -1,6 +1,6 @@
 -- A list of calls that meets demand 3's terms: accepted calls of each kind, and refused ones.
 use mathlib.Core.List.{List, [], _∷_}
-use lib.IntN.{ℤ, pos, negsuc}
+use lib.IntN.{pos, negsuc}
 use Rattle.lists.specs.Bytes.{ascii}
 use Rattle.frame.specs.declared.GainMode.the-variants.{Saturating, Wrapping}
 use Rattle.calls.specs.Calls.{Level}
