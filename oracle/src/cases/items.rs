@@ -2,7 +2,9 @@
 
 use super::ape::{self, area_of, is_area, item, tag_of, written};
 use super::Case;
-use crate::ape::{reach, read_ape_tag, ApeTag, MP3GAIN_VALUE_KEYS, TAG_MP3GAIN_UNDO, UNDONE_KEYS};
+use crate::ape::{
+    reach, read_ape_tag, ApeReplayGain, ApeTag, MP3GAIN_VALUE_KEYS, REPLAYGAIN_KEYS, TAG_MP3GAIN_UNDO, UNDONE_KEYS,
+};
 use crate::tools::{hex, Bench, Compare, Record, Rng};
 use std::cell::Cell;
 
@@ -205,6 +207,8 @@ enum Op {
     GetUndoGain,
     SetUndoGain(i32, i32, bool),
     SetMinmax(u8, u8),
+    /// The five texts, in the order of the source. The library's side is `set` for each that is there.
+    SetReplaygain([Option<String>; 5]),
 }
 
 /// What a call answers: a value, an area with its count, or a number of steps.
@@ -236,6 +240,11 @@ fn parts(area: &[u8], count: usize) -> Vec<(&[u8], &[u8])> {
             part
         })
         .collect()
+}
+
+/// Whether the keys and values are all UTF-8.
+fn are_utf8(parts: &[(&[u8], &[u8])]) -> bool {
+    parts.iter().all(|(k, v)| std::str::from_utf8(k).is_ok() && std::str::from_utf8(v).is_ok())
 }
 
 /// Bytes as the strings of an `ApeTag`: UTF-8, or, where an area has other bytes, one character for each byte, which keeps the
@@ -293,8 +302,7 @@ fn published(area: &[u8], count: usize, op: &Op) -> Result<Answer, u32> {
         }
     }
     let parts = parts(area, count);
-    let utf8 = parts.iter().all(|(k, v)| std::str::from_utf8(k).is_ok() && std::str::from_utf8(v).is_ok());
-    let texts = Texts { utf8 };
+    let texts = Texts { utf8: are_utf8(&parts) };
     let mut tag = tag_of(parts.iter().map(|(k, v)| item(&texts.of(k), &texts.of(v))).collect());
     match op {
         Op::Get(key) => return Ok(Answer::Value(tag.get(&texts.of(key)).map(|v| texts.bytes(v)))),
@@ -307,6 +315,11 @@ fn published(area: &[u8], count: usize, op: &Op) -> Result<Answer, u32> {
         Op::TakeMp3gain => MP3GAIN_VALUE_KEYS.iter().for_each(|key| tag.remove(key)),
         Op::SetUndoGain(left, right, wrap) => tag.set_undo_gain(*left, *right, *wrap),
         Op::SetMinmax(least, greatest) => tag.set_minmax(*least, *greatest),
+        Op::SetReplaygain(values) => {
+            let [track_gain, track_peak, album_gain, album_peak, algorithm] =
+                values.clone().map(|v| v.map(|v| texts.of(v.as_bytes())));
+            tag.set_replaygain(&ApeReplayGain { track_gain, track_peak, album_gain, album_peak, algorithm });
+        }
     }
     Ok(Answer::Area(tag.len(), texts.area(&tag)))
 }
@@ -343,6 +356,16 @@ fn ours(area: &[u8], count: usize, op: &Op) -> Result<Answer, u32> {
             edit(&|out| library::set_undo_gain(area, count, *left, *right, *wrap, out))
         }
         Op::SetMinmax(least, greatest) => edit(&|out| library::set_minmax(area, count, *least, *greatest, out)),
+        Op::SetReplaygain(values) => {
+            // A removal of nothing tests the area where no text is there.
+            let mut now = edit(&|out| library::remove(area, count, b"no such key", out))?;
+            for (key, value) in REPLAYGAIN_KEYS.iter().zip(values) {
+                if let (Answer::Area(n, bytes), Some(value)) = (&now, value) {
+                    now = ours(bytes, *n, &Op::Set(key.as_bytes().to_vec(), value.as_bytes().to_vec()))?;
+                }
+            }
+            Ok(now)
+        }
     }
 }
 
@@ -522,7 +545,7 @@ fn compare(c: &mut Compare) {
         }
     }
     // Lists of calls, each on the area that the one before left.
-    for _ in 0..c.count / 20 {
+    for _ in 0..c.count / 40 {
         let (mut area, mut count) = some_area(&mut c.rng);
         for _ in 0..8 {
             let op = some_op(&mut c.rng);
@@ -531,6 +554,9 @@ fn compare(c: &mut Compare) {
                 (area, count) = (bytes, n);
             }
         }
+        let values = [(); 5].map(|_| (c.rng.below(2) == 0).then(|| some_value(&mut c.rng)));
+        let values = values.map(|v| v.map(|v| String::from_utf8_lossy(&v).into_owned()));
+        both(c, &area, count, &Op::SetReplaygain(values));
         // The same area damaged.
         let op = some_op(&mut c.rng);
         if !area.is_empty() {
@@ -628,6 +654,7 @@ fn record(r: &mut Record) {
                 ("set_undo_gain", vec![left.to_string(), right.to_string(), flag(*wrap)])
             }
             Op::SetMinmax(least, greatest) => ("set_minmax", vec![least.to_string(), greatest.to_string()]),
+            Op::SetReplaygain(_) => return,
         };
         let answer = match published(area, count, op) {
             Err(n) => vec![n.to_string()],
