@@ -21,12 +21,12 @@ pub record FoundFace : Type 0 where
   pub reply : ℕ
   pub there : ℕ
   pub start : ℕ
-  pub length : ℕ
+  pub size : ℕ
 
 abbrev pub foundFace : Found → ℕ → ℕ → ℕ → FoundFace
-foundFace (Value at n) there start length = record { reply = 0; there = 1; start = at; length = n }
-foundFace Nothing there start length = record { reply = 0; there = 0; start = 0; length = 0 }
-foundFace (NotFound r) there start length = record { reply = numberOf r; there = there; start = start; length = length }
+foundFace (Value at n) there start size = record { reply = 0; there = 1; start = at; size = n }
+foundFace Nothing there start size = record { reply = 0; there = 0; start = 0; size = 0 }
+foundFace (NotFound r) there start size = record { reply = numberOf r; there = there; start = start; size = size }
 
 -- the undo steps: the reply, whether they are there, and the number
 pub record GainFace : Type 0 where

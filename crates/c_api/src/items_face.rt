@@ -36,7 +36,7 @@ pub extern "C" fn zib_which_key(key: &[u8]) -> usize
     }
 }
 
-// The value of the first item with this key, as a part of the area: `there` is 1, with the value's start and length, or all three are 0
+// The value of the first item with this key, as a part of the area: `there` is 1, with the value's start and size, or all three are 0
 // where no item has the key. Refusals 12 and 3.
 #[no_mangle]
 pub extern "C" fn zib_get(
@@ -45,9 +45,9 @@ pub extern "C" fn zib_get(
     key: &[u8],
     there: &mut u32,
     start: &mut usize,
-    length: &mut usize,
+    size: &mut usize,
 ) -> u32
-    ensures { λ r. ⌜ (r ≡ foundFace (findOf (now (area .entry)) count (now (key .entry))) (now (there .entry)) (now (start .entry)) (now (length .entry)) .reply) × (now (there .exit) ≡ foundFace (findOf (now (area .entry)) count (now (key .entry))) (now (there .entry)) (now (start .entry)) (now (length .entry)) .there) × (now (start .exit) ≡ foundFace (findOf (now (area .entry)) count (now (key .entry))) (now (there .entry)) (now (start .entry)) (now (length .entry)) .start) × (now (length .exit) ≡ foundFace (findOf (now (area .entry)) count (now (key .entry))) (now (there .entry)) (now (start .entry)) (now (length .entry)) .length) ⌝ }
+    ensures { λ r. ⌜ (r ≡ foundFace (findOf (now (area .entry)) count (now (key .entry))) (now (there .entry)) (now (start .entry)) (now (size .entry)) .reply) × (now (there .exit) ≡ foundFace (findOf (now (area .entry)) count (now (key .entry))) (now (there .entry)) (now (start .entry)) (now (size .entry)) .there) × (now (start .exit) ≡ foundFace (findOf (now (area .entry)) count (now (key .entry))) (now (there .entry)) (now (start .entry)) (now (size .entry)) .start) × (now (size .exit) ≡ foundFace (findOf (now (area .entry)) count (now (key .entry))) (now (there .entry)) (now (start .entry)) (now (size .entry)) .size) ⌝ }
 {
     let f = items::find(area, count, key);
     match f {
@@ -57,13 +57,13 @@ pub extern "C" fn zib_get(
         } => {
             *there = 1;
             *start = at;
-            *length = n;
+            *size = n;
             0
         }
         Found::Nothing => {
             *there = 0;
             *start = 0;
-            *length = 0;
+            *size = 0;
             0
         }
         Found::Refused(r) => replies::number(r),
