@@ -4,4 +4,5 @@
 // changes nothing that it was lent.
 mod ape_face;
 mod frame_face;
+mod items_face;
 mod utf8_face;

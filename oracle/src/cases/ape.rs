@@ -7,7 +7,7 @@ use crate::tools::{hex, Bench, Compare, Record, Rng};
 pub const CASE: Case = Case { name: "ape", record, compare, bench };
 
 /// The declarations of `include/zibrunnos.h`, as Rust, and safe wrappers. A refusal is `Err` with its number.
-mod library {
+pub mod library {
     extern "C" {
         fn zib_find_ape_footer(file: *const u8, length: usize, there: *mut u32, footer: *mut usize) -> u32;
         fn zib_read_ape_tag(
@@ -100,7 +100,7 @@ pub fn area_of(tag: &ApeTag) -> Vec<u8> {
 
 /// A call that writes, tried with ample room, with exact room, and with one byte less: what it wrote, or the refusal.
 /// Panics where it changed a byte that it should not have.
-fn written(room: usize, call: impl Fn(&mut [u8]) -> Result<usize, u32>) -> Result<Vec<u8>, u32> {
+pub fn written(room: usize, call: impl Fn(&mut [u8]) -> Result<usize, u32>) -> Result<Vec<u8>, u32> {
     let mut out = vec![FILL; room];
     let n = match call(&mut out) {
         Ok(n) => n,
@@ -138,11 +138,11 @@ fn our_read(file: &[u8]) -> Option<(usize, Vec<u8>)> {
     count.map(|n| (n, area.unwrap()))
 }
 
-fn item(key: &str, value: &str) -> ApeItem {
+pub fn item(key: &str, value: &str) -> ApeItem {
     ApeItem::new(key.to_string(), value.to_string())
 }
 
-fn tag_of(items: Vec<ApeItem>) -> ApeTag {
+pub fn tag_of(items: Vec<ApeItem>) -> ApeTag {
     let mut tag = ApeTag::new();
     tag.items = items;
     tag

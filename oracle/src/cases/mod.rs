@@ -4,6 +4,7 @@ use crate::tools::{Bench, Compare, Record};
 
 mod ape;
 mod frame;
+mod items;
 mod utf8;
 
 /// What a module offers: recorded answers, a comparison, and what is timed.
@@ -14,4 +15,4 @@ pub struct Case {
     pub bench: fn(&mut Bench),
 }
 
-pub const ALL: &[Case] = &[frame::CASE, ape::CASE, utf8::CASE];
+pub const ALL: &[Case] = &[frame::CASE, ape::CASE, items::CASE, utf8::CASE];

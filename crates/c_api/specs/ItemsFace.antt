@@ -1,0 +1,50 @@
+-- What the faces of crates keys, items, area_edit and area_values answer and leave in their lent numbers. A refusal leaves them.
+use Prim.Native.Nat.{ℕ}
+use lib.IntN.{ℤ, pos}
+use Rattle.replies.specs.Refusal.{numberOf}
+use Rattle.keys.specs.declared.Which.{Which}
+use Rattle.keys.specs.declared.Which.the-variants.{Key, Other}
+use Rattle.items.specs.declared.Found.{Found}
+use Rattle.items.specs.declared.Found.the-variants.{Value, Nothing, Refused as NotFound}
+use Rattle.area_edit.specs.declared.Edited.{Edited}
+use Rattle.area_edit.specs.declared.Edited.the-variants.{Done, Refused}
+use Rattle.area_values.specs.declared.UndoGain.{UndoGain}
+use Rattle.area_values.specs.declared.UndoGain.the-variants.{Steps, Nothing as NoSteps, Refused as NoGain}
+
+-- one of the eight keys by its place, and 8 for none of them
+abbrev pub placeFace : Which → ℕ
+placeFace (Key i) = i
+placeFace Other = 8
+
+-- get: the reply, whether a value is there, where it starts, and how long it is
+pub record FoundFace : Type 0 where
+  pub reply : ℕ
+  pub there : ℕ
+  pub start : ℕ
+  pub size : ℕ
+
+abbrev pub foundFace : Found → ℕ → ℕ → ℕ → FoundFace
+foundFace (Value at n) there start size = record { reply = 0; there = 1; start = at; size = n }
+foundFace Nothing there start size = record { reply = 0; there = 0; start = 0; size = 0 }
+foundFace (NotFound r) there start size = record { reply = numberOf r; there = there; start = start; size = size }
+
+-- the undo steps: the reply, whether they are there, and the number
+pub record GainFace : Type 0 where
+  pub reply : ℕ
+  pub there : ℕ
+  pub steps : ℤ
+
+abbrev pub gainFace : UndoGain → ℕ → ℤ → GainFace
+gainFace (Steps n) there steps = record { reply = 0; there = 1; steps = n }
+gainFace NoSteps there steps = record { reply = 0; there = 0; steps = pos 0 }
+gainFace (NoGain r) there steps = record { reply = numberOf r; there = there; steps = steps }
+
+-- an edit: the reply, how many items were written, and how many bytes
+pub record EditedFace : Type 0 where
+  pub reply : ℕ
+  pub items : ℕ
+  pub written : ℕ
+
+abbrev pub editedFace : Edited → ℕ → ℕ → EditedFace
+editedFace (Done n m) items written = record { reply = 0; items = n; written = m }
+editedFace (Refused r) items written = record { reply = numberOf r; items = items; written = written }

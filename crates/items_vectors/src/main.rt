@@ -1,0 +1,280 @@
+// Replays the published Rust's recorded answers for crates keys, items, area_edit and area_values.
+//
+// A line is the call, the count of items, their area, what else the call takes, the reply, and, where that is 0, the answer.
+use area_edit::Edited;
+use area_values::UndoGain;
+use keys::Which;
+use vectors::Tally;
+
+// Whether the word at this place is the hex of these bytes.
+fn is_hex(text: &[u8], at: usize, bytes: &[u8]) -> bool {
+    let mut wanted = [0u8; 4096];
+    let n = vectors::hex_bytes(text, at, &mut wanted);
+    lists::equal(&wanted[0..n], bytes)
+}
+
+// Whether the word at this place is this number.
+fn is_number(text: &[u8], at: usize, n: u64) -> bool {
+    n == vectors::unsigned(text, at)
+}
+
+// `key KEY 0|1`: whether the rule lets it pass.
+fn key(text: &[u8], at: usize) -> bool {
+    let mut name = [0u8; 512];
+    let n = vectors::hex_bytes(text, at, &mut name);
+    let good = vectors::unsigned(text, vectors::next_word(text, at)) == 1;
+    if keys::is_key(&name[0..n]) {
+        return good;
+    }
+    !good
+}
+
+// `which KEY PLACE`: which of the eight keys, 8 for none.
+fn which(text: &[u8], at: usize) -> bool {
+    let mut name = [0u8; 512];
+    let n = vectors::hex_bytes(text, at, &mut name);
+    let place = vectors::next_word(text, at);
+    let w = keys::which_key(&name[0..n]);
+    match w {
+        Which::Key(i) => is_number(text, place, i as u64),
+        Which::Other => is_number(text, place, 8),
+    }
+}
+
+// `get COUNT AREA KEY REPLY VALUE|none`.
+fn get(text: &[u8], at: usize) -> bool {
+    let area_at = vectors::next_word(text, at);
+    let key_at = vectors::next_word(text, area_at);
+    let reply_at = vectors::next_word(text, key_at);
+    let value_at = vectors::next_word(text, reply_at);
+    let mut area = [0u8; 4096];
+    let m = vectors::hex_bytes(text, area_at, &mut area);
+    let mut name = [0u8; 512];
+    let n = vectors::hex_bytes(text, key_at, &mut name);
+    let count = vectors::unsigned(text, at) as usize;
+    let mut status = 0;
+    let mut there = false;
+    let value = items::get(&area[0..m], count, &name[0..n], &mut status, &mut there);
+    if !is_number(text, reply_at, status as u64) {
+        return false;
+    }
+    if there {
+        if lists::starts_with(text, value_at, b"none") {
+            return false;
+        }
+        return is_hex(text, value_at, value);
+    }
+    if status == 0 {
+        return lists::starts_with(text, value_at, b"none");
+    }
+    true
+}
+
+// `get_undo_gain COUNT AREA REPLY STEPS|none`.
+fn get_undo_gain(text: &[u8], at: usize) -> bool {
+    let area_at = vectors::next_word(text, at);
+    let reply_at = vectors::next_word(text, area_at);
+    let steps_at = vectors::next_word(text, reply_at);
+    let mut area = [0u8; 4096];
+    let m = vectors::hex_bytes(text, area_at, &mut area);
+    let count = vectors::unsigned(text, at) as usize;
+    let g = area_values::get_undo_gain(&area[0..m], count);
+    match g {
+        UndoGain::Steps(steps) => {
+            if !is_number(text, reply_at, 0) {
+                return false;
+            }
+            if lists::starts_with(text, steps_at, b"none") {
+                return false;
+            }
+            steps == vectors::signed(text, steps_at)
+        }
+        UndoGain::Nothing => {
+            if !is_number(text, reply_at, 0) {
+                return false;
+            }
+            lists::starts_with(text, steps_at, b"none")
+        }
+        UndoGain::Refused(r) => is_number(text, reply_at, replies::number(r) as u64),
+    }
+}
+
+// `.. REPLY COUNT AREA`: whether an edit answered and wrote this.
+fn edited(text: &[u8], at: usize, e: Edited, out: &[u8]) -> bool {
+    match e {
+        Edited::Done {
+            count: n,
+            length: m,
+        } => {
+            if !is_number(text, at, 0) {
+                return false;
+            }
+            let count_at = vectors::next_word(text, at);
+            if !is_number(text, count_at, n as u64) {
+                return false;
+            }
+            if out.len() < m {
+                return false;
+            }
+            is_hex(text, vectors::next_word(text, count_at), &out[0..m])
+        }
+        Edited::Refused(r) => is_number(text, at, replies::number(r) as u64),
+    }
+}
+
+// `set COUNT AREA KEY VALUE ..`.
+fn set(text: &[u8], at: usize) -> bool {
+    let area_at = vectors::next_word(text, at);
+    let key_at = vectors::next_word(text, area_at);
+    let value_at = vectors::next_word(text, key_at);
+    let mut area = [0u8; 4096];
+    let m = vectors::hex_bytes(text, area_at, &mut area);
+    let mut name = [0u8; 512];
+    let n = vectors::hex_bytes(text, key_at, &mut name);
+    let mut value = [0u8; 512];
+    let k = vectors::hex_bytes(text, value_at, &mut value);
+    let count = vectors::unsigned(text, at) as usize;
+    let mut out = [0u8; 8192];
+    let e = area_edit::set(&area[0..m], count, &name[0..n], &value[0..k], &mut out);
+    edited(text, vectors::next_word(text, value_at), e, &out)
+}
+
+// `remove COUNT AREA KEY ..`.
+fn remove(text: &[u8], at: usize) -> bool {
+    let area_at = vectors::next_word(text, at);
+    let key_at = vectors::next_word(text, area_at);
+    let mut area = [0u8; 4096];
+    let m = vectors::hex_bytes(text, area_at, &mut area);
+    let mut name = [0u8; 512];
+    let n = vectors::hex_bytes(text, key_at, &mut name);
+    let count = vectors::unsigned(text, at) as usize;
+    let mut out = [0u8; 8192];
+    let e = area_edit::remove(&area[0..m], count, &name[0..n], &mut out);
+    edited(text, vectors::next_word(text, key_at), e, &out)
+}
+
+// `remove_replaygain COUNT AREA ..`.
+fn remove_replaygain(text: &[u8], at: usize) -> bool {
+    let area_at = vectors::next_word(text, at);
+    let mut area = [0u8; 4096];
+    let m = vectors::hex_bytes(text, area_at, &mut area);
+    let count = vectors::unsigned(text, at) as usize;
+    let mut out = [0u8; 8192];
+    let e = area_edit::remove_replaygain(&area[0..m], count, &mut out);
+    edited(text, vectors::next_word(text, area_at), e, &out)
+}
+
+// `drop_undone COUNT AREA ..`.
+fn drop_undone(text: &[u8], at: usize) -> bool {
+    let area_at = vectors::next_word(text, at);
+    let mut area = [0u8; 4096];
+    let m = vectors::hex_bytes(text, area_at, &mut area);
+    let count = vectors::unsigned(text, at) as usize;
+    let mut out = [0u8; 8192];
+    let e = area_edit::drop_undone(&area[0..m], count, &mut out);
+    edited(text, vectors::next_word(text, area_at), e, &out)
+}
+
+// `take_mp3gain COUNT AREA ..`.
+fn take_mp3gain(text: &[u8], at: usize) -> bool {
+    let area_at = vectors::next_word(text, at);
+    let mut area = [0u8; 4096];
+    let m = vectors::hex_bytes(text, area_at, &mut area);
+    let count = vectors::unsigned(text, at) as usize;
+    let mut out = [0u8; 8192];
+    let e = area_edit::take_mp3gain(&area[0..m], count, &mut out);
+    edited(text, vectors::next_word(text, area_at), e, &out)
+}
+
+// `set_undo_gain COUNT AREA LEFT RIGHT W|N ..`.
+fn set_undo_gain(text: &[u8], at: usize) -> bool {
+    let area_at = vectors::next_word(text, at);
+    let left_at = vectors::next_word(text, area_at);
+    let right_at = vectors::next_word(text, left_at);
+    let flag_at = vectors::next_word(text, right_at);
+    let mut area = [0u8; 4096];
+    let m = vectors::hex_bytes(text, area_at, &mut area);
+    let count = vectors::unsigned(text, at) as usize;
+    let left = vectors::signed(text, left_at);
+    let right = vectors::signed(text, right_at);
+    let wrap = lists::starts_with(text, flag_at, b"W");
+    let mut out = [0u8; 8192];
+    let e = area_values::set_undo_gain(&area[0..m], count, left, right, wrap, &mut out);
+    edited(text, vectors::next_word(text, flag_at), e, &out)
+}
+
+// `set_minmax COUNT AREA LEAST GREATEST ..`.
+fn set_minmax(text: &[u8], at: usize) -> bool {
+    let area_at = vectors::next_word(text, at);
+    let least_at = vectors::next_word(text, area_at);
+    let greatest_at = vectors::next_word(text, least_at);
+    let mut area = [0u8; 4096];
+    let m = vectors::hex_bytes(text, area_at, &mut area);
+    let count = vectors::unsigned(text, at) as usize;
+    let least = (vectors::unsigned(text, least_at) % 256) as u8;
+    let greatest = (vectors::unsigned(text, greatest_at) % 256) as u8;
+    let mut out = [0u8; 8192];
+    let e = area_values::set_minmax(&area[0..m], count, least, greatest, &mut out);
+    edited(text, vectors::next_word(text, greatest_at), e, &out)
+}
+
+// Whether the answer in the line at this place is the library's.
+fn agrees(text: &[u8], at: usize) -> bool {
+    let from = vectors::next_word(text, at);
+    if lists::starts_with(text, at, b"key ") {
+        return key(text, from);
+    }
+    if lists::starts_with(text, at, b"which ") {
+        return which(text, from);
+    }
+    if lists::starts_with(text, at, b"get ") {
+        return get(text, from);
+    }
+    if lists::starts_with(text, at, b"get_undo_gain ") {
+        return get_undo_gain(text, from);
+    }
+    if lists::starts_with(text, at, b"set ") {
+        return set(text, from);
+    }
+    if lists::starts_with(text, at, b"remove ") {
+        return remove(text, from);
+    }
+    if lists::starts_with(text, at, b"remove_replaygain ") {
+        return remove_replaygain(text, from);
+    }
+    if lists::starts_with(text, at, b"drop_undone ") {
+        return drop_undone(text, from);
+    }
+    if lists::starts_with(text, at, b"take_mp3gain ") {
+        return take_mp3gain(text, from);
+    }
+    if lists::starts_with(text, at, b"set_undo_gain ") {
+        return set_undo_gain(text, from);
+    }
+    if lists::starts_with(text, at, b"set_minmax ") {
+        return set_minmax(text, from);
+    }
+    false
+}
+
+fn replay(text: &[u8]) -> Tally {
+    let mut answers: u64 = 0;
+    let mut differ: u64 = 0;
+    let mut at = 0;
+    while at < text.len() {
+        if vectors::is_answer(text, at) {
+            answers = std::num::wrapping_add_u64(answers, 1);
+            if !agrees(text, at) {
+                differ = std::num::wrapping_add_u64(differ, 1);
+            }
+        }
+        at = vectors::next_line(text, at);
+    }
+    Tally { answers, differ }
+}
+
+fn main() {
+    let mut text = vectors::buffer();
+    let n = io::read_full(0, &mut text);
+    vectors::report(b"items", replay(&text[..n]));
+}
