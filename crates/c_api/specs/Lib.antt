@@ -1,3 +1,4 @@
 pub mod FrameFace
 pub mod Utf8Face
 pub mod ApeFace
+pub mod ValuesFace

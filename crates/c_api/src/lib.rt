@@ -5,3 +5,4 @@
 mod ape_face;
 mod frame_face;
 mod utf8_face;
+mod values_face;
