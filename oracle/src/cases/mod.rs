@@ -5,6 +5,7 @@ use crate::tools::{Bench, Compare, Record};
 mod ape;
 mod frame;
 mod utf8;
+mod values;
 
 /// What a module offers: recorded answers, a comparison, and what is timed.
 pub struct Case {
@@ -14,4 +15,4 @@ pub struct Case {
     pub bench: fn(&mut Bench),
 }
 
-pub const ALL: &[Case] = &[frame::CASE, ape::CASE, utf8::CASE];
+pub const ALL: &[Case] = &[frame::CASE, ape::CASE, utf8::CASE, values::CASE];
