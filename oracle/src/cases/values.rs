@@ -473,7 +473,7 @@ fn compare(c: &mut Compare) {
 }
 
 fn compare_undo(c: &mut Compare) {
-    every(&ALPHABET, 4, |text| undo(c, text));
+    every(&ALPHABET, 5, |text| undo(c, text));
     every(&ALPHABET, 3, |text| undo(c, &[b"1,-2,", text].concat()));
     for left in NUMBERS {
         for pad in PADS {
@@ -491,6 +491,11 @@ fn compare_undo(c: &mut Compare) {
             }
         }
     }
+    for steps in -600..=600 {
+        for text in ["", "+003,-012,N", "-3,junk", "2147483647,-2147483648,W"] {
+            accumulate(c, text.as_bytes(), steps, -steps);
+        }
+    }
     let numbers = || (-1100..=1100).chain(ENDS).chain([i32::MAX / 2, i32::MIN / 2]);
     for wrap in [false, true] {
         for left in numbers() {
@@ -500,7 +505,7 @@ fn compare_undo(c: &mut Compare) {
             }
         }
     }
-    for _ in 0..c.count {
+    for _ in 0..c.count / 2 {
         let (left, right, wrap) = (any_i32(&mut c.rng), any_i32(&mut c.rng), c.rng.below(2) == 1);
         format_undo(c, left, right, wrap);
         let valid = format_undo_value(left, right, wrap).into_bytes();
@@ -535,9 +540,8 @@ fn compare_ranges(c: &mut Compare) {
         }
     }
     for steps in [0, 1, -1, 255, -255, 256] {
-        every(&ALPHABET, 3, |text| range(c, MINMAX, text, steps));
+        every(&ALPHABET, 4, |text| range(c, MINMAX, text, steps));
     }
-    every(&ALPHABET, 4, |text| range(c, MINMAX, text, 1));
     for left in NUMBERS {
         for right in NUMBERS {
             for steps in ENDS {
@@ -563,7 +567,7 @@ fn compare_ranges(c: &mut Compare) {
             }
         }
     }
-    for _ in 0..c.count {
+    for _ in 0..c.count / 2 {
         let steps = any_i32(&mut c.rng);
         let valid = format!("{},{}", any_i32(&mut c.rng), any_i32(&mut c.rng));
         range(c, "mp3gain_album_minmax", valid.as_bytes(), steps);
@@ -581,7 +585,7 @@ fn turn(i: u64) -> i32 {
 fn compare_gains(c: &mut Compare) {
     // Texts of the form and near it: no other is shifted.
     let form = ["0", "1.", "234567", ".", "+", "-", " ", " dB", "dB", "d", "B", "\u{A0}", "9"];
-    every(&form, 4, |text| shift(c, TRACK_GAIN, text, 1));
+    every(&form, 5, |text| shift(c, TRACK_GAIN, text, 1));
     for steps in -255..=255 {
         // All that come to zero, or a millionth or two from it.
         let there = (steps as f64 * 1505149.978319906).round() as i64;
@@ -609,7 +613,7 @@ fn compare_gains(c: &mut Compare) {
 }
 
 fn compare_slips(c: &mut Compare) {
-    every(&SLIP_WORDS, 5, |text| slip(c, text));
+    every(&SLIP_WORDS, 6, |text| slip(c, text));
     every(&SLIP_WORDS, 4, |text| {
         slip(c, &[b"left=", text].concat());
         slip(c, &[b"left=1\nright=", text].concat());
