@@ -6,3 +6,4 @@ mod ape_face;
 mod frame_face;
 mod items_face;
 mod utf8_face;
+mod values_face;

@@ -6,6 +6,7 @@ mod ape;
 mod frame;
 mod items;
 mod utf8;
+mod values;
 
 /// What a module offers: recorded answers, a comparison, and what is timed.
 pub struct Case {
@@ -15,4 +16,4 @@ pub struct Case {
     pub bench: fn(&mut Bench),
 }
 
-pub const ALL: &[Case] = &[frame::CASE, ape::CASE, items::CASE, utf8::CASE];
+pub const ALL: &[Case] = &[frame::CASE, ape::CASE, items::CASE, utf8::CASE, values::CASE];

@@ -1,0 +1,211 @@
+// Replays the published Rust's recorded answers for crate values. The lines on slips, which the Rust does not have, are a second
+// reading of document 01.
+use decimal::Text;
+use frame::GainMode;
+use frame::GainSteps;
+use slip::Slip;
+use vectors::Tally;
+
+// Whether the word at this place is the hex of the first `len` bytes.
+fn is_hex(text: &[u8], at: usize, bytes: &[u8], len: usize) -> bool {
+    let mut wanted = [0u8; 64];
+    let n = vectors::hex_bytes(text, at, &mut wanted);
+    if bytes.len() < len {
+        return false;
+    }
+    lists::equal(&wanted[0..n], &bytes[0..len])
+}
+
+// Whether the word at this place is the hex of this text.
+fn is_text(text: &[u8], at: usize, t: Text) -> bool {
+    let len = t.len;
+    let bytes = t.bytes;
+    is_hex(text, at, &bytes, len)
+}
+
+// Whether the word at this place is the flag, `1` or `0`.
+fn is_flag(text: &[u8], at: usize, flag: bool) -> bool {
+    if flag {
+        return lists::starts_with(text, at, b"1");
+    }
+    lists::starts_with(text, at, b"0")
+}
+
+fn flag(text: &[u8], at: usize) -> bool {
+    lists::starts_with(text, at, b"1")
+}
+
+// `undo TEXT LEFT RIGHT FLAG`.
+fn undo(text: &[u8], at: usize) -> bool {
+    let mut value = [0u8; 256];
+    let n = vectors::hex_bytes(text, at, &mut value);
+    let left = vectors::next_word(text, at);
+    let right = vectors::next_word(text, left);
+    let u = values::parse_undo_values(&value[0..n]);
+    if u.left != vectors::signed(text, left) {
+        return false;
+    }
+    if u.right != vectors::signed(text, right) {
+        return false;
+    }
+    let wrap = values::parse_undo_wrap(&value[0..n]);
+    is_flag(text, vectors::next_word(text, right), wrap)
+}
+
+// `accumulate TEXT LEFT RIGHT LEFT RIGHT`.
+fn accumulate(text: &[u8], at: usize) -> bool {
+    let mut value = [0u8; 256];
+    let n = vectors::hex_bytes(text, at, &mut value);
+    let left = vectors::next_word(text, at);
+    let right = vectors::next_word(text, left);
+    let l = vectors::signed(text, left);
+    let r = vectors::signed(text, right);
+    let u = values::accumulate_undo(&value[0..n], GainSteps(l), GainSteps(r));
+    let new_left = vectors::next_word(text, right);
+    if u.left != vectors::signed(text, new_left) {
+        return false;
+    }
+    u.right == vectors::signed(text, vectors::next_word(text, new_left))
+}
+
+// `format LEFT RIGHT FLAG TEXT`.
+fn format(text: &[u8], at: usize) -> bool {
+    let right = vectors::next_word(text, at);
+    let wrap = vectors::next_word(text, right);
+    let t = values::format_undo_value(
+        vectors::signed(text, at),
+        vectors::signed(text, right),
+        flag(text, wrap),
+    );
+    is_text(text, vectors::next_word(text, wrap), t)
+}
+
+// `minmax LEAST GREATEST TEXT`.
+fn minmax(text: &[u8], at: usize) -> bool {
+    let greatest = vectors::next_word(text, at);
+    let a = (vectors::unsigned(text, at) % 256) as u8;
+    let b = (vectors::unsigned(text, greatest) % 256) as u8;
+    is_text(
+        text,
+        vectors::next_word(text, greatest),
+        values::format_minmax(a, b),
+    )
+}
+
+// `out KEY VALUE STEPS FLAG`.
+fn out(text: &[u8], at: usize) -> bool {
+    let mut key = [0u8; 64];
+    let k = vectors::hex_bytes(text, at, &mut key);
+    let value_at = vectors::next_word(text, at);
+    let mut value = [0u8; 256];
+    let n = vectors::hex_bytes(text, value_at, &mut value);
+    let steps = vectors::next_word(text, value_at);
+    let s = vectors::signed(text, steps);
+    let leaves = values::range_wraps_out(&key[0..k], &value[0..n], GainSteps(s));
+    is_flag(text, vectors::next_word(text, steps), leaves)
+}
+
+// `shift KEY VALUE STEPS TEXT`: the new text, or `none`.
+fn shift(text: &[u8], at: usize) -> bool {
+    let mut key = [0u8; 64];
+    let k = vectors::hex_bytes(text, at, &mut key);
+    let value_at = vectors::next_word(text, at);
+    let mut value = [0u8; 256];
+    let n = vectors::hex_bytes(text, value_at, &mut value);
+    let steps = vectors::next_word(text, value_at);
+    let s = vectors::signed(text, steps);
+    let shifted = values::shift_stored_value(&key[0..k], &value[0..n], GainSteps(s));
+    let wanted = vectors::next_word(text, steps);
+    if !shifted.moved {
+        return lists::starts_with(text, wanted, b"none");
+    }
+    if lists::starts_with(text, wanted, b"none") {
+        return false;
+    }
+    is_text(text, wanted, shifted.text)
+}
+
+fn wraps(mode: GainMode) -> bool {
+    match mode {
+        GainMode::Saturating => false,
+        GainMode::Wrapping => true,
+    }
+}
+
+// `slip TEXT REPLY LEFT RIGHT FLAG`.
+fn slip_line(text: &[u8], at: usize) -> bool {
+    let mut value = [0u8; 256];
+    let n = vectors::hex_bytes(text, at, &mut value);
+    let reply = vectors::next_word(text, at);
+    let wanted = vectors::unsigned(text, reply);
+    let left = vectors::next_word(text, reply);
+    let right = vectors::next_word(text, left);
+    let s = slip::parse_slip(&value[0..n]);
+    match s {
+        Slip::Steps(wish) => {
+            if wanted != 0 {
+                return false;
+            }
+            let a = wish.left;
+            let b = wish.right;
+            if a.0 != vectors::signed(text, left) {
+                return false;
+            }
+            if b.0 != vectors::signed(text, right) {
+                return false;
+            }
+            let mode = wish.mode;
+            is_flag(text, vectors::next_word(text, right), wraps(mode))
+        }
+        Slip::Refused(r) => replies::number(r) as u64 == wanted,
+    }
+}
+
+// Whether the answer in the line at this place is the library's.
+fn agrees(text: &[u8], at: usize) -> bool {
+    let from = vectors::next_word(text, at);
+    if lists::starts_with(text, at, b"undo ") {
+        return undo(text, from);
+    }
+    if lists::starts_with(text, at, b"accumulate ") {
+        return accumulate(text, from);
+    }
+    if lists::starts_with(text, at, b"format ") {
+        return format(text, from);
+    }
+    if lists::starts_with(text, at, b"minmax ") {
+        return minmax(text, from);
+    }
+    if lists::starts_with(text, at, b"out ") {
+        return out(text, from);
+    }
+    if lists::starts_with(text, at, b"shift ") {
+        return shift(text, from);
+    }
+    if lists::starts_with(text, at, b"slip ") {
+        return slip_line(text, from);
+    }
+    false
+}
+
+fn replay(text: &[u8]) -> Tally {
+    let mut answers: u64 = 0;
+    let mut differ: u64 = 0;
+    let mut at = 0;
+    while at < text.len() {
+        if vectors::is_answer(text, at) {
+            answers = std::num::wrapping_add_u64(answers, 1);
+            if !agrees(text, at) {
+                differ = std::num::wrapping_add_u64(differ, 1);
+            }
+        }
+        at = vectors::next_line(text, at);
+    }
+    Tally { answers, differ }
+}
+
+fn main() {
+    let mut text = vectors::buffer();
+    let n = io::read_full(0, &mut text);
+    vectors::report(b"values", replay(&text[..n]));
+}
