@@ -7,7 +7,7 @@ use lib.Dec.{eqb, ltb}
 use lib.IntN.{ℤ, pos, negsuc}
 use lib.Signed.{mag}
 use Rattle.lists.specs.Choice.{found, isSome}
-use Rattle.replies.specs.Refusal.{need, refusalOf, Plan, planned}
+use Rattle.replies.specs.Refusal.{Test, need, refusalOf, Plan, planned}
 use Rattle.replies.specs.declared.Refusal.the-variants.{
   StepOutOfRange,
   BadKey,
@@ -173,19 +173,28 @@ stepsFit l = isStep (l .left) && isStep (l .right)
 abbrev pub numbersFit : UndoValues → Bool
 numbersFit u = isUndoNumber (u .left) && isUndoNumber (u .right)
 
--- every gain adjusted, and the file with the items that level leaves; refusals 1, 2, 7, 8, 9, 11, 6, 5
-unfoldable pub levelPlan : List ℕ → List ℕ → List ℕ → Level → ℕ → Plan Levelled
-levelPlan file left right l room =
-    let ts = itemsOf file in
-    let lefts = adjusted (l .mode) (l .left) left in
-    let rights = adjusted (l .mode) (l .right) right in
-    let new = levelItems l ts (lefts ++ rights) in
-    planned
-    (refusalOf (
+-- the items that level leaves in a file, from the gains that it is lent
+abbrev pub newItems : List ℕ → List ℕ → List ℕ → Level → List Item
+newItems file left right l = levelItems l (itemsOf file) (adjusted (l .mode) (l .left) left ++ adjusted (l .mode) (l .right) right)
+
+-- refusals 1, 2, 7, 8, 9, 11, 6, 5
+abbrev pub levelTests : List ℕ → List ℕ → List ℕ → Level → ℕ → List Test
+levelTests file left right l room =
     lentFits file ∷ need StepOutOfRange (stepsFit l) ∷ need NoLeftGains (isThere left) ∷ need NotEditable (passesGate file)
-    ∷ need FlagDiffers (found (storedUndo ts) true (agrees (l .mode))) ∷ need UndoOutOfRange (numbersFit (booked l ts))
-    ∷ need TagTooLarge (tagFits new) ∷ roomFor room (replaced file new) ∷ []))
-    (record { out = replaced file new; left = lefts; right = rights; peaks = countOf isPeakKey new })
+    ∷ need FlagDiffers (found (storedUndo (itemsOf file)) true (agrees (l .mode))) ∷ need UndoOutOfRange (numbersFit (booked l (itemsOf file)))
+    ∷ need TagTooLarge (tagFits (newItems file left right l)) ∷ roomFor room (replaced file (newItems file left right l)) ∷ []
+
+-- every gain adjusted, and the file with these items
+abbrev pub levelGives : List ℕ → List ℕ → List ℕ → Level → Levelled
+levelGives file left right l = record {
+  out = replaced file (newItems file left right l);
+  left = adjusted (l .mode) (l .left) left;
+  right = adjusted (l .mode) (l .right) right;
+  peaks = countOf isPeakKey (newItems file left right l);
+}
+
+unfoldable pub levelPlan : List ℕ → List ℕ → List ℕ → Level → ℕ → Plan Levelled
+levelPlan file left right l room = planned (refusalOf (levelTests file left right l room)) (levelGives file left right l)
 
 -- ---- undo
 
@@ -200,13 +209,17 @@ undoneLeft text gs = adjusted (modeOf (undoWraps text)) ((parseUndo text) .left)
 abbrev pub undoneRight : List ℕ → List ℕ → List ℕ
 undoneRight text gs = adjusted (modeOf (undoWraps text)) ((parseUndo text) .right) gs
 
--- every gain adjusted by the stored numbers, and the file without the eight keys; refusals 1, 7, 8, 10, 5
+-- refusals 1, 7, 8, 10, 5
+abbrev pub undoTests : List ℕ → List ℕ → ℕ → List Test
+undoTests file left room =
+    lentFits file ∷ need NoLeftGains (isThere left) ∷ need NotEditable (passesGate file) ∷ need NoUndo (isSome (storedUndo (itemsOf file)))
+    ∷ roomFor room (replaced file (others (itemsOf file))) ∷ []
+
+-- every gain adjusted by the stored numbers, and the file without the eight keys: no peak item is left
+abbrev pub undoGives : List ℕ → List ℕ → List ℕ → Levelled
+undoGives file left right =
+    let text = Option·getD (storedUndo (itemsOf file)) [] in
+    record { out = replaced file (others (itemsOf file)); left = undoneLeft text left; right = undoneRight text right; peaks = 0 }
+
 unfoldable pub undoPlan : List ℕ → List ℕ → List ℕ → ℕ → Plan Levelled
-undoPlan file left right room =
-    let ts = itemsOf file in
-    let text = Option·getD (storedUndo ts) [] in
-    planned
-    (refusalOf (
-    lentFits file ∷ need NoLeftGains (isThere left) ∷ need NotEditable (passesGate file) ∷ need NoUndo (isSome (storedUndo ts))
-    ∷ roomFor room (replaced file (others ts)) ∷ []))
-    (record { out = replaced file (others ts); left = undoneLeft text left; right = undoneRight text right; peaks = 0 })
+undoPlan file left right room = planned (refusalOf (undoTests file left room)) (undoGives file left right)

@@ -1,4 +1,3 @@
 pub mod Gate
 pub mod Calls
-pub mod Book
-pub mod Run
+pub mod Figures

@@ -1,2 +1,4 @@
 pub mod Clean
 pub mod Gates
+pub mod Rewriting
+pub mod Plans

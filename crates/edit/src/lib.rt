@@ -6,13 +6,17 @@ ghost use lib.ListN.{length};
 ghost use Rattle.lists.specs.Choice.{provided, isSome};
 ghost use Rattle.lists.specs.Write.{over};
 ghost use Rattle.utf8.specs.Utf8.{Classes};
-ghost use Rattle.items.specs.Items.{parse, itemsIn};
+ghost use Rattle.keys.specs.Keys.{isKey};
+ghost use Rattle.items.specs.Items.{parse, itemsIn, setItem, without};
+ghost use Rattle.area_edit.specs.Edits.{dropped};
 ghost use Rattle.ape_write.specs.Answers.{writtenAnswer, writtenBytes};
-ghost use Rattle.calls.specs.Gate.{allValid};
+ghost use Rattle.calls.specs.Gate.{allValid, itemsOf};
 ghost use Rattle.calls.specs.Calls.{setPlan, removePlan};
-ghost use Rattle.edit.specs.Gate.{GateIs, tagPlan};
+ghost use Rattle.edit.specs.Gate.{Passed, GateIs, tagPlan};
 use ape::Footer;
 use ape_write::Written;
+use area_edit::Drop;
+use area_edit::Measured;
 use frame::TagStart;
 use items::Stepped;
 use replies::Refusal;
@@ -108,4 +112,113 @@ pub fn gate(file: &[u8]) -> Editable
         end: footer,
         count,
     }
+}
+
+// Room for the items of a tag while they are edited: the items of a file that is fit for editing, one more, and some.
+pub fn scratch() -> [u8; 66048]
+    ensures { λ r. ⌜ 66048 ≡ length r ⌝ }
+{
+    [0u8; 66048]
+}
+
+// The file with the items of a well-formed area in place of its own: refusals 6 and 5, the last of every call that writes a file.
+pub fn finish(file: &[u8], area: &[u8], count: usize, out: &mut [u8]) -> Written
+    requires { ⌜ (length (now file) ≤ 16777216) × (isSome (parse count (now area)) ≡ true) ⌝ }
+    ensures { λ r. ⌜ (r ≡ writtenAnswer (tagPlan (now (file .entry)) (itemsIn count (now (area .entry))) (length (now (out .entry))))) × (now (out .exit) ≡ over (writtenBytes (tagPlan (now (file .entry)) (itemsIn count (now (area .entry))) (length (now (out .entry))))) (now (out .entry))) ⌝ }
+{
+    if replies::COUNT_LIMIT < count {
+        return Written::Refused(Refusal::TagTooLarge);
+    }
+    if replies::AREA_LIMIT < area.len() {
+        return Written::Refused(Refusal::TagTooLarge);
+    }
+    ape_write::replace_items(file, area, count, out)
+}
+
+// Sets an item of a file that is fit for editing.
+fn set_item(
+    file: &[u8],
+    start: usize,
+    end: usize,
+    count: usize,
+    key: &[u8],
+    value: &[u8],
+    out: &mut [u8],
+) -> Written
+    requires { ⌜ (Passed (now file) start end count) × (length (now file) ≤ 16777216) × (isKey (now key) ≡ true) × (length (now value) ≤ 32768) ⌝ }
+    ensures { λ r. ⌜ (r ≡ writtenAnswer (tagPlan (now (file .entry)) (setItem (now (key .entry)) (now (value .entry)) (itemsOf (now (file .entry)))) (length (now (out .entry))))) × (now (out .exit) ≡ over (writtenBytes (tagPlan (now (file .entry)) (setItem (now (key .entry)) (now (value .entry)) (itemsOf (now (file .entry)))) (length (now (out .entry))))) (now (out .entry))) ⌝ }
+{
+    let area = &file[start..end];
+    let p = items::locate(area, count, key);
+    let mut new = scratch();
+    let m = area_edit::write_set(area, count, key, value, p, &mut new);
+    let n = m.length;
+    finish(file, &new[0..n], m.count, out)
+}
+
+// The file with this value at the first item with this key, or with one more item: refusals 1, 3, 4, 8, 6 and 5.
+pub fn set_ape_item(file: &[u8], key: &[u8], value: &[u8], out: &mut [u8]) -> Written
+    ensures { λ r. ⌜ (r ≡ writtenAnswer (setPlan (now (file .entry)) (now (key .entry)) (now (value .entry)) (length (now (out .entry))))) × (now (out .exit) ≡ over (writtenBytes (setPlan (now (file .entry)) (now (key .entry)) (now (value .entry)) (length (now (out .entry))))) (now (out .entry))) ⌝ }
+{
+    if replies::FILE_LIMIT < file.len() {
+        return Written::Refused(Refusal::FileTooLong);
+    }
+    if !keys::is_key(key) {
+        return Written::Refused(Refusal::BadKey);
+    }
+    if !utf8::is_utf8(value) {
+        return Written::Refused(Refusal::NotUtf8);
+    }
+    let g = gate(file);
+    let Editable::Items { start, end, count } = g else {
+        return Written::Refused(Refusal::NotEditable);
+    };
+    if replies::AREA_LIMIT < value.len() {
+        return Written::Refused(Refusal::TagTooLarge);
+    }
+    set_item(file, start, end, count, key, value, out)
+}
+
+// Drops items of a file that is fit for editing.
+pub fn drop_items(
+    file: &[u8],
+    start: usize,
+    end: usize,
+    count: usize,
+    what: Drop,
+    key: &[u8],
+    out: &mut [u8],
+) -> Written
+    requires { ⌜ (Passed (now file) start end count) × (length (now file) ≤ 16777216) ⌝ }
+    ensures { λ r. ⌜ (r ≡ writtenAnswer (tagPlan (now (file .entry)) (without (dropped what (now (key .entry))) (itemsOf (now (file .entry)))) (length (now (out .entry))))) × (now (out .exit) ≡ over (writtenBytes (tagPlan (now (file .entry)) (without (dropped what (now (key .entry))) (itemsOf (now (file .entry)))) (length (now (out .entry))))) (now (out .entry))) ⌝ }
+{
+    let area = &file[start..end];
+    let m = area_edit::measure_without(area, count, what, key);
+    let Measured::Size {
+        count: left,
+        length: _,
+    } = m
+    else {
+        return Written::Refused(Refusal::NotEditable);
+    };
+    let mut new = scratch();
+    let n = area_edit::write_without(area, count, what, key, &mut new);
+    finish(file, &new[0..n], left, out)
+}
+
+// The file without the items with this key: refusals 1, 3, 8, 6 and 5.
+pub fn remove_ape_item(file: &[u8], key: &[u8], out: &mut [u8]) -> Written
+    ensures { λ r. ⌜ (r ≡ writtenAnswer (removePlan (now (file .entry)) (now (key .entry)) (length (now (out .entry))))) × (now (out .exit) ≡ over (writtenBytes (removePlan (now (file .entry)) (now (key .entry)) (length (now (out .entry))))) (now (out .entry))) ⌝ }
+{
+    if replies::FILE_LIMIT < file.len() {
+        return Written::Refused(Refusal::FileTooLong);
+    }
+    if !keys::is_key(key) {
+        return Written::Refused(Refusal::BadKey);
+    }
+    let g = gate(file);
+    let Editable::Items { start, end, count } = g else {
+        return Written::Refused(Refusal::NotEditable);
+    };
+    drop_items(file, start, end, count, Drop::Key, key, out)
 }

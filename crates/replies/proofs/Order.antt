@@ -8,7 +8,7 @@ use mathlib.Core.List.{List, [], _∷_}
 use lib.ListN.{length, getD}
 use lib.Dec.{eqb}
 use borrow.Author.Tests.{not-false}
-use Rattle.replies.specs.Refusal.{numberOf, order, Test, failed, firstOf, refusalOf, Plan, no, yes, planned}
+use Rattle.replies.specs.Refusal.{numberOf, order, Test, failed, firstOf, refusalOf, yes, planned}
 use Rattle.replies.specs.declared.Refusal.{Refusal}
 use Rattle.replies.specs.declared.Refusal.the-variants.{
   FileTooLong,

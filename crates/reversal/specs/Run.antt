@@ -1,4 +1,4 @@
--- A list of level, set and remove calls (demand 3, and document 01, "Level and undo").
+-- A list of level, set and remove calls, and the book that stands for its edits alone (demand 3, and document 01, "Level and undo").
 use Prim.Native.Nat.{ℕ}
 use mathlib.Core.Path.{_≡_}
 use mathlib.Core.Bool.{Bool, true, false}
@@ -8,8 +8,38 @@ use lib.IntN.{ℤ, pos, _+ℤ_}
 use Rattle.replies.specs.Refusal.{Plan, no, yes}
 use Rattle.frame.specs.declared.GainMode.the-variants.{Wrapping}
 use Rattle.frame.specs.Steps.{Lands}
-use Rattle.calls.specs.Calls.{Level, Levelled, levelPlan}
-use Rattle.calls.specs.Book.{Edit, editPlan, Book, bookOf, feed}
+use Rattle.items.specs.Items.{Item, setItem, removeItem}
+use Rattle.calls.specs.Calls.{setPlan, removePlan, Level, Levelled, levelPlan}
+use Rattle.book.specs.Book.{Book, bookOf}
+
+-- ---- edits
+
+-- set a key to a value, or remove a key, with the length of the output
+pub data Edit : Type 0 where
+  set : List ℕ → List ℕ → ℕ → Edit
+  remove : List ℕ → ℕ → Edit
+
+-- the key that an edit names
+abbrev pub keyOf : Edit → List ℕ
+keyOf (set key value room) = key
+keyOf (remove key room) = key
+
+-- what an edit makes of items
+abbrev pub editItems : Edit → List Item → List Item
+editItems (set key value room) ts = setItem key value ts
+editItems (remove key room) ts = removeItem key ts
+
+-- what an edit of a file is: refused, or the file that it writes
+unfoldable pub editPlan : List ℕ → Edit → Plan (List ℕ)
+editPlan file (set key value room) = setPlan file key value room
+editPlan file (remove key room) = removePlan file key room
+
+-- an accepted edit changes a book's items; a refused edit changes nothing
+unfoldable pub feed : Book → Edit → Bool → Book
+feed b e false = b
+feed b e true = record { front = b .front; items = editItems e (b .items); back = b .back }
+
+-- ---- calls
 
 -- a call with its arguments and its own output length
 pub data Call : Type 0 where

@@ -1,0 +1,4 @@
+pub mod Sound
+pub mod Reading
+pub mod Settled
+pub mod Tail

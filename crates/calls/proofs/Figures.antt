@@ -1,0 +1,77 @@
+-- The bench figures marked P, together, and the small examples of the table of replies: by computation.
+use mathlib.Core.Path.{refl}
+use Rattle.lists.specs.Bytes.{all, same, startsWith, placeOf}
+use Rattle.keys.specs.Keys.{upper, upperAll, sameKey, whichOf, keys, whichKey, isFrom, undoKey, minmaxKey, isReserved, isKey}
+use Rattle.number.specs.Fields.{before, behind, field}
+use Rattle.number.specs.Reading.{isDigit, digitsFrom, natural, isMinus, unsigned, whole, i32, u8}
+use Rattle.number.specs.Trim.{isSpace, trimLeft, keep, trimRight, trim}
+use Rattle.decimal.specs.Writing.{places, decimal, signed}
+use Rattle.decibels.specs.Gain.{remaining, nearest, fraction, millionths, parseGain, formatGain, shiftGain}
+use Rattle.values.specs.Range.{formatRange, parseRange, shiftRange, leaves, wrapsOut}
+use Rattle.values.specs.Stored.{kindOf, rangeWrapsOut, shiftStored}
+use Rattle.values.specs.Undo.{formatUndo, parseUndo, undoWraps, accumulated}
+use Rattle.frame.specs.Gain.{adjust}
+use Rattle.frame.specs.Tail.{standsAt, startOf, tagStart}
+use Rattle.utf8.specs.Utf8.{numberOf, classAt, run, stepOf, lossyFrom, lossy, validFrom, valid}
+use Rattle.items.specs.Items.{itemBytes, areaBytes, headAt, head, plainHead, parse, getItem, setItem, without}
+use Rattle.ape.specs.Tag.{blockBytes, tagBytes, serialize, findFooter, areaAt, moved, split, fileOf, replaced}
+use Rattle.calls.specs.Gate.{fit, allValid, gateItems, passesGate, itemsOf, tagFits}
+use Rattle.calls.specs.Calls.{setPlan, removePlan, staying, shiftItem, shiftStoredGain, storedUndo, booked, least, greatest, shiftedItems, levelItems, countOf, isPeakKey, levelPlan, others, undoPlan}
+use Rattle.calls.specs.Figures.{Figures, Examples}
+
+pub figures : Figures
+unfolding all same startsWith placeOf upper upperAll sameKey whichOf keys whichKey isFrom undoKey minmaxKey before behind field isDigit digitsFrom natural isMinus unsigned whole i32 u8 isSpace trimLeft keep trimRight trim places decimal signed remaining nearest fraction millionths parseGain formatGain shiftGain formatRange parseRange shiftRange leaves wrapsOut kindOf rangeWrapsOut shiftStored formatUndo parseUndo undoWraps accumulated adjust standsAt startOf tagStart numberOf classAt run stepOf lossyFrom lossy validFrom valid itemBytes areaBytes headAt head plainHead parse getItem setItem without blockBytes tagBytes serialize findFooter areaAt moved split fileOf replaced fit allValid gateItems passesGate itemsOf tagFits staying shiftItem shiftStoredGain storedUndo booked least greatest shiftedItems levelItems countOf isPeakKey levelPlan others undoPlan
+figures = record {
+  undo-n = refl;
+  undo-w = refl;
+  right-junk = refl;
+  left-junk = refl;
+  n-zero = refl;
+  n-high = refl;
+  n-low = refl;
+  w-high = refl;
+  w-low = refl;
+  range-text = refl;
+  range-out = refl;
+  range-n = refl;
+  range-w = refl;
+  gain-two = refl;
+  gain-one = refl;
+  gain-minus = refl;
+  one-mark = refl;
+  two-marks = refl;
+  item-bytes = refl;
+  header-size = refl;
+  footer-size = refl;
+  tag-bytes = refl;
+  level-ten = refl;
+  undo-ten = refl;
+  level-high = refl;
+  undo-high = refl;
+}
+
+pub examples : Examples
+unfolding all same startsWith placeOf upper upperAll sameKey whichOf keys whichKey isFrom undoKey minmaxKey isReserved isKey before behind field isDigit digitsFrom natural isMinus unsigned whole i32 u8 isSpace trimLeft keep trimRight trim places decimal signed remaining nearest fraction millionths parseGain formatGain shiftGain formatRange parseRange shiftRange leaves wrapsOut kindOf rangeWrapsOut shiftStored formatUndo parseUndo undoWraps accumulated adjust standsAt startOf tagStart numberOf classAt run stepOf validFrom valid itemBytes areaBytes headAt head plainHead parse getItem setItem without blockBytes tagBytes serialize findFooter areaAt moved split fileOf replaced fit allValid gateItems passesGate itemsOf tagFits setPlan removePlan staying shiftItem shiftStoredGain storedUndo booked least greatest shiftedItems levelItems countOf isPeakKey levelPlan others undoPlan
+examples = record {
+  two = refl;
+  three = refl;
+  four = refl;
+  five = refl;
+  five-not = refl;
+  six = refl;
+  seven = refl;
+  eight = refl;
+  eight-utf8 = refl;
+  removed = refl;
+  removed-all = refl;
+  nine = refl;
+  ten = refl;
+  eleven = refl;
+  two-first = refl;
+  seven-first = refl;
+  nine-first = refl;
+  again = refl;
+  out-again = refl;
+  unequal = refl;
+  junk = refl;
+}

@@ -1,0 +1,4 @@
+pub mod Lists
+pub mod Texts
+pub mod Items
+pub mod Figures

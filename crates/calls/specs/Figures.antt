@@ -1,0 +1,171 @@
+-- Document 01's bench figures marked P, and the small examples of its table of replies, over the definitions that the contracts cite.
+use Prim.Native.Nat.{ℕ}
+use mathlib.Core.Path.{_≡_}
+use mathlib.Core.Bool.{true, false}
+use mathlib.Core.Option.{some}
+use mathlib.Core.List.{List, [], _∷_, _++_}
+use lib.ListN.{length, replicate}
+use lib.IntN.{ℤ, pos, negsuc}
+use Rattle.lists.specs.Bytes.{ascii}
+use Rattle.lists.specs.Le.{u32le}
+use Rattle.replies.specs.Refusal.{no, yes}
+use Rattle.replies.specs.declared.Refusal.the-variants.{
+  StepOutOfRange,
+  BadKey,
+  NotUtf8,
+  NoRoom,
+  TagTooLarge,
+  NoLeftGains,
+  NotEditable,
+  FlagDiffers,
+  NoUndo,
+  UndoOutOfRange,
+}
+use Rattle.frame.specs.declared.GainMode.{GainMode}
+use Rattle.frame.specs.declared.GainMode.the-variants.{Saturating, Wrapping}
+use Rattle.frame.specs.Tail.{preamble}
+use Rattle.frame.specs.Gain.{adjust}
+use Rattle.utf8.specs.Utf8.{mark, lossy}
+use Rattle.values.specs.Undo.{formatUndo, parseUndo}
+use Rattle.values.specs.Stored.{shiftStored, rangeWrapsOut}
+use Rattle.decibels.specs.Gain.{shiftGain}
+use Rattle.items.specs.Items.{Item, areaBytes}
+use Rattle.ape.specs.Tag.{sizeAt, serialize}
+use Rattle.calls.specs.Calls.{Level, setPlan, removePlan, shiftStoredGain, levelPlan, undoPlan}
+
+-- ---- what the figures are about
+
+-- an item of a quoted key and a quoted value
+abbrev pub item : List ℕ → List ℕ → Item
+item key value = record { key = key; value = value }
+
+-- key `AB`, value `c`
+abbrev pub ab : List Item
+ab = item (ascii "AB") (ascii "c") ∷ []
+
+-- a range item
+abbrev pub ranged : List ℕ → Item
+ranged text = item (ascii "MP3GAIN_MINMAX") text
+
+-- an undo item alone
+abbrev pub undoItem : List ℕ → List Item
+undoItem text = item (ascii "MP3GAIN_UNDO") text ∷ []
+
+-- the two items that level sets
+abbrev pub levelPair : List ℕ → List ℕ → List Item
+levelPair undo range = item (ascii "MP3GAIN_UNDO") undo ∷ ranged range ∷ []
+
+-- a level call of these steps
+abbrev pub by : ℤ → ℤ → GainMode → Level
+by left right mode = record { left = left; right = right; mode = mode }
+
+-- both steps 5, N
+abbrev pub fives : Level
+fives = by (pos 5) (pos 5) Saturating
+
+-- ---- the figures marked P, row by row
+
+pub record Figures : Type 0 where
+  -- undo 3, -12, N; 0, 1000, W
+  pub undo-n : formatUndo (pos 3) (negsuc 11) false ≡ ascii "+003,-012,N"
+  pub undo-w : formatUndo (pos 0) (pos 1000) true ≡ ascii "+000,+1000,W"
+  -- `-3,junk` gives -3, -3; `junk,7` gives 0, 7
+  pub right-junk : parseUndo (ascii "-3,junk") ≡ record { left = negsuc 2; right = negsuc 2 }
+  pub left-junk : parseUndo (ascii "junk,7") ≡ record { left = pos 0; right = pos 7 }
+  -- N: 0+9=0, 250+10=255, 3-9=0; W: 250+10=4, 3-9=250
+  pub n-zero : adjust Saturating (pos 9) 0 ≡ 0
+  pub n-high : adjust Saturating (pos 10) 250 ≡ 255
+  pub n-low : adjust Saturating (negsuc 8) 3 ≡ 0
+  pub w-high : adjust Wrapping (pos 10) 250 ≡ 4
+  pub w-low : adjust Wrapping (negsuc 8) 3 ≡ 250
+  -- `094,168` by 100: `194,255`; under W dropped
+  pub range-text : shiftStored (ascii "MP3GAIN_MINMAX") (ascii "094,168") (pos 100) ≡ some (ascii "194,255")
+  pub range-out : rangeWrapsOut (ascii "MP3GAIN_MINMAX") (ascii "094,168") (pos 100) ≡ true
+  pub range-n : shiftStoredGain Saturating (pos 100) (ranged (ascii "094,168") ∷ []) ≡ ranged (ascii "194,255") ∷ []
+  pub range-w : shiftStoredGain Wrapping (pos 100) (ranged (ascii "094,168") ∷ []) ≡ []
+  -- `-3.500000 dB` by 2; `+1.505150 dB` by 1; `-1.505150 dB` by -1
+  pub gain-two : shiftGain (pos 2) (ascii "-3.500000 dB") ≡ some (ascii "-6.510300 dB")
+  pub gain-one : shiftGain (pos 1) (ascii "+1.505150 dB") ≡ some (ascii "+0.000000 dB")
+  pub gain-minus : shiftGain (negsuc 0) (ascii "-1.505150 dB") ≡ some (ascii "-0.000000 dB")
+  -- hex E2 82 41 reads EF BF BD 41; F0 80 gives two marks
+  pub one-mark : lossy (0xE2 ∷ 0x82 ∷ 0x41 ∷ []) ≡ 0xEF ∷ 0xBF ∷ 0xBD ∷ 0x41 ∷ []
+  pub two-marks : lossy (0xF0 ∷ 0x80 ∷ []) ≡ mark ++ mark
+  -- `AB`, `c`: 12 item bytes, size 44 (in the header, and in the footer, which stands at 44), 76 in all
+  pub item-bytes : length (areaBytes ab) ≡ 12
+  pub header-size : sizeAt (serialize ab) 0 ≡ 44
+  pub footer-size : sizeAt (serialize ab) 44 ≡ 44
+  pub tag-bytes : length (serialize ab) ≡ 76
+  -- left 10, 0, no right gains, both steps 5, N: 15, 0, `-005,-005,N`, `000,015`; undo gives 10, 0
+  pub level-ten : levelPlan [] (10 ∷ 0 ∷ []) [] fives 1000
+      ≡ yes (record { out = serialize (levelPair (ascii "-005,-005,N") (ascii "000,015")); left = 15 ∷ 0 ∷ []; right = []; peaks = 0 })
+  pub undo-ten : undoPlan (serialize (levelPair (ascii "-005,-005,N") (ascii "000,015"))) (15 ∷ 0 ∷ []) [] 1000
+      ≡ yes (record { out = []; left = 10 ∷ 0 ∷ []; right = []; peaks = 0 })
+  -- left 252 likewise: 255; undo gives 250
+  pub level-high : levelPlan [] (252 ∷ []) [] fives 1000
+      ≡ yes (record { out = serialize (levelPair (ascii "-005,-005,N") (ascii "255,255")); left = 255 ∷ []; right = []; peaks = 0 })
+  pub undo-high : undoPlan (serialize (levelPair (ascii "-005,-005,N") (ascii "255,255"))) (255 ∷ []) [] 1000
+      ≡ yes (record { out = []; left = 250 ∷ []; right = []; peaks = 0 })
+
+-- ---- the small examples of the table of replies that these calls give
+
+-- a footer of another version, alone
+abbrev pub version1000 : List ℕ
+version1000 = preamble ++ (u32le 1000 ++ (u32le 32 ++ (u32le 0 ++ (u32le 0 ++ replicate 8 0))))
+
+-- a tag of a peak, a range and an undo item, its keys as someone spelled them
+abbrev pub peaked : List Item
+peaked = item (ascii "replaygain_track_peak") (ascii "0.9") ∷ item (ascii "Mp3gain_MinMax") (ascii "010,200") ∷ item (ascii "MP3GAIN_undo") (ascii "+001,-002,W") ∷ []
+
+pub record Examples : Type 0 where
+  -- 2: left 256
+  pub two : levelPlan [] (10 ∷ []) [] (by (pos 256) (pos 0) Saturating) 1000 ≡ no StepOutOfRange
+  -- 3: key `A`
+  pub three : setPlan [] (ascii "A") (ascii "c") 1000 ≡ no BadKey
+  -- 4: hex FF
+  pub four : setPlan [] (ascii "AB") (0xFF ∷ []) 1000 ≡ no NotUtf8
+  -- 5: 75 bytes for a 76-byte tag; 76 are enough, and the key is spelled in upper case
+  pub five : setPlan [] (ascii "ab") (ascii "c") 75 ≡ no NoRoom
+  pub five-not : setPlan [] (ascii "ab") (ascii "c") 76 ≡ yes (serialize ab)
+  -- 6: a 257th item
+  pub six : setPlan (serialize (replicate 256 (item (ascii "AB") (ascii "c")))) (ascii "CD") (ascii "e") 10000 ≡ no TagTooLarge
+  -- 7: left list empty
+  pub seven : levelPlan [] [] (10 ∷ []) fives 1000 ≡ no NoLeftGains
+  -- 8: footer version 1000
+  pub eight : removePlan version1000 (ascii "AB") 1000 ≡ no NotEditable
+  pub eight-utf8 : removePlan (serialize (item (ascii "AB") (0xFF ∷ []) ∷ [])) (ascii "CD") 1000 ≡ no NotEditable
+  -- every match is removed, and nothing is written for no items
+  pub removed : removePlan (0x11 ∷ serialize (item (ascii "ab") (ascii "1") ∷ item (ascii "CD") (ascii "2") ∷ item (ascii "AB") (ascii "3") ∷ [])) (ascii "aB") 1000
+      ≡ yes (0x11 ∷ serialize (item (ascii "CD") (ascii "2") ∷ []))
+  pub removed-all : removePlan (0x11 ∷ serialize ab) (ascii "aB") 1 ≡ yes (0x11 ∷ [])
+  -- 9: stored `+003,+003,N`, call W
+  pub nine : levelPlan (serialize (undoItem (ascii "+003,+003,N"))) (10 ∷ []) [] (by (pos 1) (pos 1) Wrapping) 1000 ≡ no FlagDiffers
+  -- 10: empty file
+  pub ten : undoPlan [] (10 ∷ []) [] 1000 ≡ no NoUndo
+  -- 11: stored `+32767,+000,N`, left -1
+  pub eleven : levelPlan (serialize (undoItem (ascii "+32767,+000,N"))) (10 ∷ []) [] (by (negsuc 0) (pos 0) Saturating) 1000 ≡ no UndoOutOfRange
+  -- where several apply: 2 before 7 before 8, and 9 before 11
+  pub two-first : levelPlan version1000 [] [] (by (pos 0) (negsuc 255) Wrapping) 0 ≡ no StepOutOfRange
+  pub seven-first : undoPlan version1000 [] [] 0 ≡ no NoLeftGains
+  pub nine-first : levelPlan (serialize (undoItem (ascii "+32767,+000,N"))) (10 ∷ []) [] (by (negsuc 0) (pos 0) Wrapping) 0 ≡ no FlagDiffers
+  -- a second level call under W adds to the stored numbers, keeps spelling and places, shifts the range and sets it to that of all gains, and counts the peak
+  pub again : levelPlan (serialize peaked) (250 ∷ 20 ∷ []) (30 ∷ []) (by (pos 3) (pos 3) Wrapping) 1000 ≡ yes (record {
+    out = serialize (item (ascii "replaygain_track_peak") (ascii "0.9") ∷ item (ascii "Mp3gain_MinMax") (ascii "023,253") ∷ item (ascii "MP3GAIN_undo") (ascii "-002,-005,W") ∷ []);
+    left = 253 ∷ 23 ∷ [];
+    right = 33 ∷ [];
+    peaks = 1;
+  })
+  -- a range that leaves 0..255 is dropped under W and then appended; unequal steps drop the peak
+  pub out-again : levelPlan (serialize peaked) (250 ∷ []) [] (by (pos 56) (pos 56) Wrapping) 1000 ≡ yes (record {
+    out = serialize (item (ascii "replaygain_track_peak") (ascii "0.9") ∷ item (ascii "MP3GAIN_undo") (ascii "-055,-058,W") ∷ ranged (ascii "050,050") ∷ []);
+    left = 50 ∷ [];
+    right = [];
+    peaks = 1;
+  })
+  pub unequal : levelPlan (serialize peaked) (250 ∷ []) (7 ∷ []) (by (pos 1) (negsuc 0) Wrapping) 1000 ≡ yes (record {
+    out = serialize (item (ascii "Mp3gain_MinMax") (ascii "006,251") ∷ item (ascii "MP3GAIN_undo") (ascii "+000,-001,W") ∷ []);
+    left = 251 ∷ [];
+    right = 6 ∷ [];
+    peaks = 0;
+  })
+  -- undo by a junk text: 0 and 0 under N
+  pub junk : undoPlan (serialize (undoItem (ascii "junk"))) (10 ∷ []) [] 1000 ≡ yes (record { out = []; left = 10 ∷ []; right = []; peaks = 0 })

@@ -1,0 +1,4 @@
+pub mod Levels
+pub mod Calls
+pub mod Demand
+pub mod Sample
