@@ -1,26 +1,20 @@
--- A text of at most 32 bytes, the part of its bytes that it fills, and a face that writes it.
-use Prim.Native.Nat.{ℕ, _≤_}
+-- What a face writes of a text of at most 32 bytes, and what a shifted value says.
+use Prim.Native.Nat.{ℕ}
 use native.Mathlib.Omega.{arith}
 use mathlib.Core.Bool.{true, false}
 use mathlib.Core.Path.{_≡_, refl, sym, ap, _∙_}
 use mathlib.Core.Option.{Option, none, some}
 use mathlib.Core.List.{List}
-use lib.ListN.{length, take, length-append}
-use lib.Seq.{take-at}
+use lib.ListN.{take}
 use Rattle.decimal.specs.Writing.{textOf, shiftedIs}
 use Rattle.decimal.specs.declared.Text.{Text}
 use Rattle.decimal.specs.declared.Shifted.{Shifted}
+use Rattle.decimal.proofs.Texts.{text-part}
 use Rattle.c_values.specs.ValuesFace.{TextFace, textFace}
 
 module _ (t : Text) (w : List ℕ) (e : t ≡ textOf w) where
-  pub text-within : t .len ≤ length (t .bytes)
-  text-within = rw e (rw length-append (omega arith))
-
-  text-part : take (t .len) (t .bytes) ≡ w
-  text-part = rw e (take-at w _ (length w) refl)
-
-  pub text-face : (out : List ℕ) (old : ℕ) → textFace (take (t .len) (t .bytes)) out old ≡ textFace w out old
-  text-face out old = ap (λ (v : List ℕ). textFace v out old) text-part
+  text-face : (out : List ℕ) (old : ℕ) → textFace (take (t .len) (t .bytes)) out old ≡ textFace w out old
+  text-face out old = ap (λ (v : List ℕ). textFace v out old) (text-part t w e)
 
   -- what was written, of the text
   pub wrote : (out xs : List ℕ) (old r n : ℕ)

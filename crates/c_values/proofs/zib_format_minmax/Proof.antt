@@ -1,6 +1,7 @@
 use borrow.Author.Needs.{needs}
 use Rattle.values.specs.Range.{formatRange}
-use Rattle.c_values.proofs.Texts.{text-within, wrote}
+use Rattle.decimal.proofs.Texts.{text-within}
+use Rattle.c_values.proofs.Texts.{wrote}
 use Rattle.c_values.proofs.zib_format_minmax.Statement.{statement}
 use Rattle.c_values.proofs.zib_format_minmax.Tie as tie
 

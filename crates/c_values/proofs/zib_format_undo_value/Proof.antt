@@ -3,7 +3,8 @@ use mir.Facts.{toZ-ofZ}
 use borrow.Author.Needs.{needs}
 use Rattle.decimal.specs.Writing.{textOf}
 use Rattle.values.specs.Undo.{formatUndo}
-use Rattle.c_values.proofs.Texts.{text-within, wrote}
+use Rattle.decimal.proofs.Texts.{text-within}
+use Rattle.c_values.proofs.Texts.{wrote}
 use Rattle.c_values.proofs.zib_format_undo_value.Statement.{statement}
 use Rattle.c_values.proofs.zib_format_undo_value.Tie as tie
 
