@@ -24,6 +24,9 @@ pub(crate) mod reach {
 }
 "#;
 
+/// The library's archives, one for each module.
+const ARCHIVES: [&str; 5] = ["c_frame", "c_utf8", "c_values", "c_items", "c_ape"];
+
 fn fail(text: &str) -> ! {
     eprintln!("oracle: {text}");
     process::exit(1);
@@ -54,7 +57,9 @@ fn main() {
 
     println!("cargo:rerun-if-changed={}", ape.display());
     println!("cargo:rerun-if-changed={}", frame.display());
-    println!("cargo:rerun-if-changed={}", archive.join("libc_api.a").display());
     println!("cargo:rustc-link-search=native={}", archive.display());
-    println!("cargo:rustc-link-lib=static=c_api");
+    for name in ARCHIVES {
+        println!("cargo:rerun-if-changed={}", archive.join(format!("lib{name}.a")).display());
+        println!("cargo:rustc-link-lib=static={name}");
+    }
 }

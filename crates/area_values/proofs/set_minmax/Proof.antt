@@ -1,7 +1,8 @@
 use Rattle.values.specs.Range.{formatRange}
 use borrow.Author.Needs.{needs}
 use Rattle.keys.specs.Keys.{minmaxKey}
-use Rattle.area_values.proofs.Texts.{text-within, text-set}
+use Rattle.decimal.proofs.Texts.{text-within}
+use Rattle.area_values.proofs.Texts.{text-set}
 use Rattle.area_values.proofs.set_minmax.Statement.{statement}
 use Rattle.area_values.proofs.set_minmax.Tie as tie
 

@@ -2,7 +2,8 @@ use mir.Facts.{toZ-ofZ}
 use Rattle.values.specs.Undo.{formatUndo}
 use borrow.Author.Needs.{needs}
 use Rattle.keys.specs.Keys.{undoKey}
-use Rattle.area_values.proofs.Texts.{text-within, text-set}
+use Rattle.decimal.proofs.Texts.{text-within}
+use Rattle.area_values.proofs.Texts.{text-set}
 use Rattle.area_values.proofs.set_undo_gain.Statement.{statement}
 use Rattle.area_values.proofs.set_undo_gain.Tie as tie
 

@@ -1,0 +1,26 @@
+use mathlib.Core.Path.{refl}
+use borrow.Author.Needs.{needs}
+use Rattle.c_ape.proofs.zib_find_ape_footer.Statement.{statement}
+use Rattle.c_ape.proofs.zib_find_ape_footer.Tie as tie
+
+returns : tie.Need-returns
+returns c = rw (← c .before .before .before .find-ape-footer .ensures, c .before .f .given .1) (refl, refl, refl)
+
+returns-2 : tie.Need-returns-2
+returns-2 c = rw (← c .before .before .find-ape-footer .ensures, c .enum-told .given .1) (refl, refl, refl)
+
+returns-3 : tie.Need-returns-3
+returns-3 c = rw (← c .before .before .before .before .find-ape-footer .ensures, c .before .before .f2 .given .1) (c .number .ensures, refl, refl)
+
+pub zib-find-ape-footer-spec : {M : Type 1} → statement M
+zib-find-ape-footer-spec =
+    tie.close
+    (tie.spec
+    (λ c κs. search needs)
+    (λ c. search needs)
+    (λ c. search needs)
+    (λ c. search needs)
+    (λ c κs. search needs)
+    returns
+    returns-2
+    returns-3)

@@ -1,0 +1,29 @@
+use mathlib.Core.Path.{refl}
+use borrow.Author.Needs.{needs}
+use Rattle.c_ape.proofs.zib_read_ape_tag.Statement.{statement}
+use Rattle.c_ape.proofs.zib_read_ape_tag.Tie as tie
+
+returns : tie.Need-returns
+returns c = rw (← c .before .before .before .before .read-ape-tag .ensures .0, c .enum-told .given .1) (refl, refl, refl, refl, c .before .before .before .before .read-ape-tag .ensures .1)
+
+returns-2 : tie.Need-returns-2
+returns-2 c = rw (← c .before .before .before .before .before .read-ape-tag .ensures .0, c .before .t .given .1) (refl, refl, refl, refl, c .before .before .before .before .before .read-ape-tag .ensures .1)
+
+returns-3 : tie.Need-returns-3
+returns-3 c = rw (← c .before .before .before .before .before .before .read-ape-tag .ensures .0, c .before .before .t2 .given .1) (c .number .ensures, refl, refl, refl, c .before .before .before .before .before .before .read-ape-tag .ensures .1)
+
+pub zib-read-ape-tag-spec : {M : Type 1} → statement M
+zib-read-ape-tag-spec =
+    tie.close
+    (tie.spec
+    (λ c κs. search needs)
+    (λ c. search needs)
+    (λ c. search needs)
+    (λ c. search needs)
+    (λ c κs. search needs)
+    (λ c. search needs)
+    returns
+    (λ c. search needs)
+    returns-2
+    (λ c. search needs)
+    returns-3)

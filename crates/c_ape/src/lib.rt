@@ -1,0 +1,106 @@
+// The faces of crates ape and ape_write.
+ghost use mathlib.Core.Path.{_≡_};
+ghost use lib.ListN.{length};
+ghost use Rattle.lists.specs.Write.{over};
+ghost use Rattle.ape.specs.Answers.{footerPlan, footerAnswer, readPlan, readAnswer, readBytes};
+ghost use Rattle.ape_write.specs.Answers.{serializePlan, replacePlan, writtenAnswer, writtenBytes};
+ghost use Rattle.c_ape.specs.ApeFace.{footerFace, readFace, writtenFace};
+use ape::FooterFound;
+use ape::TagRead;
+use ape_write::Written;
+
+// Where the footer of the file's tag stands: `there` is 1 and `footer` its place, or both are 0. Refusal 1.
+#[no_mangle]
+pub extern "C" fn zib_find_ape_footer(file: &[u8], there: &mut u32, footer: &mut usize) -> u32
+    ensures { λ r. ⌜ (r ≡ footerFace (footerAnswer (footerPlan (now (file .entry)))) (now (there .entry)) (now (footer .entry)) .reply) × (now (there .exit) ≡ footerFace (footerAnswer (footerPlan (now (file .entry)))) (now (there .entry)) (now (footer .entry)) .there) × (now (footer .exit) ≡ footerFace (footerAnswer (footerPlan (now (file .entry)))) (now (there .entry)) (now (footer .entry)) .footer) ⌝ }
+{
+    let f = ape::find_ape_footer(file);
+    match f {
+        FooterFound::At(at) => {
+            *there = 1;
+            *footer = at;
+            0
+        }
+        FooterFound::Nowhere => {
+            *there = 0;
+            *footer = 0;
+            0
+        }
+        FooterFound::Refused(r) => replies::number(r),
+    }
+}
+
+// Reads the file's tag into `area`: `there` is 1, with the count of items and the length of their area, or all three are 0 for no tag.
+// Refusals 1 and 5.
+#[no_mangle]
+pub extern "C" fn zib_read_ape_tag(
+    file: &[u8],
+    area: &mut [u8],
+    there: &mut u32,
+    count: &mut usize,
+    written: &mut usize,
+) -> u32
+    ensures { λ r. ⌜ (r ≡ readFace (readAnswer (readPlan (now (file .entry)) (length (now (area .entry))))) (now (there .entry)) (now (count .entry)) (now (written .entry)) .reply) × (now (there .exit) ≡ readFace (readAnswer (readPlan (now (file .entry)) (length (now (area .entry))))) (now (there .entry)) (now (count .entry)) (now (written .entry)) .there) × (now (count .exit) ≡ readFace (readAnswer (readPlan (now (file .entry)) (length (now (area .entry))))) (now (there .entry)) (now (count .entry)) (now (written .entry)) .count) × (now (written .exit) ≡ readFace (readAnswer (readPlan (now (file .entry)) (length (now (area .entry))))) (now (there .entry)) (now (count .entry)) (now (written .entry)) .written) × (now (area .exit) ≡ over (readBytes (readPlan (now (file .entry)) (length (now (area .entry))))) (now (area .entry))) ⌝ }
+{
+    let t = ape::read_ape_tag(file, area);
+    match t {
+        TagRead::NoTag => {
+            *there = 0;
+            *count = 0;
+            *written = 0;
+            0
+        }
+        TagRead::Items {
+            count: n,
+            length: m,
+        } => {
+            *there = 1;
+            *count = n;
+            *written = m;
+            0
+        }
+        TagRead::Refused(r) => replies::number(r),
+    }
+}
+
+// The tag of the `count` items of `area`, written to the front of `out`, and its length into `written`. Refusals 12 and 5.
+#[no_mangle]
+pub extern "C" fn zib_serialize_ape_tag(
+    area: &[u8],
+    count: usize,
+    out: &mut [u8],
+    written: &mut usize,
+) -> u32
+    ensures { λ r. ⌜ (r ≡ writtenFace (writtenAnswer (serializePlan (now (area .entry)) count (length (now (out .entry))))) (now (written .entry)) .reply) × (now (written .exit) ≡ writtenFace (writtenAnswer (serializePlan (now (area .entry)) count (length (now (out .entry))))) (now (written .entry)) .written) × (now (out .exit) ≡ over (writtenBytes (serializePlan (now (area .entry)) count (length (now (out .entry))))) (now (out .entry))) ⌝ }
+{
+    let w = ape_write::serialize_ape_tag(area, count, out);
+    match w {
+        Written::Done(n) => {
+            *written = n;
+            0
+        }
+        Written::Refused(r) => replies::number(r),
+    }
+}
+
+// The file with its tag replaced by the `count` items of `area`, written to the front of `out`, and its length into `written`.
+// Refusals 1, 12 and 5.
+#[no_mangle]
+pub extern "C" fn zib_replace_ape_tag(
+    file: &[u8],
+    area: &[u8],
+    count: usize,
+    out: &mut [u8],
+    written: &mut usize,
+) -> u32
+    ensures { λ r. ⌜ (r ≡ writtenFace (writtenAnswer (replacePlan (now (file .entry)) (now (area .entry)) count (length (now (out .entry))))) (now (written .entry)) .reply) × (now (written .exit) ≡ writtenFace (writtenAnswer (replacePlan (now (file .entry)) (now (area .entry)) count (length (now (out .entry))))) (now (written .entry)) .written) × (now (out .exit) ≡ over (writtenBytes (replacePlan (now (file .entry)) (now (area .entry)) count (length (now (out .entry))))) (now (out .entry))) ⌝ }
+{
+    let w = ape_write::replace_ape_tag(file, area, count, out);
+    match w {
+        Written::Done(n) => {
+            *written = n;
+            0
+        }
+        Written::Refused(r) => replies::number(r),
+    }
+}

@@ -1,0 +1,227 @@
+// The faces of crates keys, items, area_edit and area_values.
+//
+// A call that edits an area writes the new area to the front of `out`, how many items it has into `items`, and its length into `written`.
+ghost use mathlib.Core.Path.{_≡_};
+ghost use lib.ListN.{length};
+ghost use Rattle.lists.specs.Write.{over};
+ghost use Rattle.keys.specs.Keys.{undoKey, minmaxKey, isKey, whichKey, whichIs, isMp3gainKey, isUndone, isReplayGain};
+ghost use Rattle.values.specs.Undo.{formatUndo};
+ghost use Rattle.values.specs.Range.{formatRange};
+ghost use Rattle.items.specs.Answers.{findOf};
+ghost use Rattle.area_edit.specs.Edits.{answer, bytes, setPlan, removePlan, dropPlan};
+ghost use Rattle.area_values.specs.Undo.{undoGainOf};
+ghost use Rattle.c_items.specs.ItemsFace.{placeFace, foundFace, gainFace, editedFace};
+use area_edit::Edited;
+use area_values::UndoGain;
+use items::Found;
+use keys::Which;
+
+// Whether refusal 3 lets the key pass.
+#[no_mangle]
+pub extern "C" fn zib_is_key(key: &[u8]) -> bool
+    ensures { λ r. ⌜ r ≡ isKey (now (key .entry)) ⌝ }
+{
+    keys::is_key(key)
+}
+
+// Which of the eight keys of mp3gain it is, in any letter case: its place, or 8 for none of them.
+#[no_mangle]
+pub extern "C" fn zib_which_key(key: &[u8]) -> usize
+    ensures { λ r. ⌜ r ≡ placeFace (whichIs (whichKey (now (key .entry)))) ⌝ }
+{
+    let w = keys::which_key(key);
+    match w {
+        Which::Key(i) => i,
+        Which::Other => 8,
+    }
+}
+
+// The value of the first item with this key, as a part of the area: `there` is 1, with the value's start and size, or all three are 0
+// where no item has the key. Refusals 12 and 3.
+#[no_mangle]
+pub extern "C" fn zib_get(
+    area: &[u8],
+    count: usize,
+    key: &[u8],
+    there: &mut u32,
+    start: &mut usize,
+    size: &mut usize,
+) -> u32
+    ensures { λ r. ⌜ (r ≡ foundFace (findOf (now (area .entry)) count (now (key .entry))) (now (there .entry)) (now (start .entry)) (now (size .entry)) .reply) × (now (there .exit) ≡ foundFace (findOf (now (area .entry)) count (now (key .entry))) (now (there .entry)) (now (start .entry)) (now (size .entry)) .there) × (now (start .exit) ≡ foundFace (findOf (now (area .entry)) count (now (key .entry))) (now (there .entry)) (now (start .entry)) (now (size .entry)) .start) × (now (size .exit) ≡ foundFace (findOf (now (area .entry)) count (now (key .entry))) (now (there .entry)) (now (start .entry)) (now (size .entry)) .size) ⌝ }
+{
+    let f = items::find(area, count, key);
+    match f {
+        Found::Value {
+            start: at,
+            length: n,
+        } => {
+            *there = 1;
+            *start = at;
+            *size = n;
+            0
+        }
+        Found::Nothing => {
+            *there = 0;
+            *start = 0;
+            *size = 0;
+            0
+        }
+        Found::Refused(r) => replies::number(r),
+    }
+}
+
+// The left number of the first undo item: `there` is 1 and `steps` the number, or both are 0 where there is none. Refusal 12.
+#[no_mangle]
+pub extern "C" fn zib_get_undo_gain(
+    area: &[u8],
+    count: usize,
+    there: &mut u32,
+    steps: &mut i32,
+) -> u32
+    ensures { λ r. ⌜ (r ≡ gainFace (undoGainOf (now (area .entry)) count) (now (there .entry)) (now (steps .entry)) .reply) × (now (there .exit) ≡ gainFace (undoGainOf (now (area .entry)) count) (now (there .entry)) (now (steps .entry)) .there) × (now (steps .exit) ≡ gainFace (undoGainOf (now (area .entry)) count) (now (there .entry)) (now (steps .entry)) .steps) ⌝ }
+{
+    let g = area_values::get_undo_gain(area, count);
+    match g {
+        UndoGain::Steps(n) => {
+            *there = 1;
+            *steps = n;
+            0
+        }
+        UndoGain::Nothing => {
+            *there = 0;
+            *steps = 0;
+            0
+        }
+        UndoGain::Refused(r) => replies::number(r),
+    }
+}
+
+// The reply to an edit, and its counts into the lent numbers.
+fn edited(e: Edited, items: &mut usize, written: &mut usize) -> u32
+    ensures { λ r. ⌜ (r ≡ editedFace e (now (items .entry)) (now (written .entry)) .reply) × (now (items .exit) ≡ editedFace e (now (items .entry)) (now (written .entry)) .items) × (now (written .exit) ≡ editedFace e (now (items .entry)) (now (written .entry)) .written) ⌝ }
+{
+    match e {
+        Edited::Done {
+            count: n,
+            length: m,
+        } => {
+            *items = n;
+            *written = m;
+            0
+        }
+        Edited::Refused(r) => replies::number(r),
+    }
+}
+
+// The area with this value at the first item with this key, or with one more item. Refusals 12, 3, 4 and 5.
+#[no_mangle]
+pub extern "C" fn zib_set(
+    area: &[u8],
+    count: usize,
+    key: &[u8],
+    value: &[u8],
+    out: &mut [u8],
+    items: &mut usize,
+    written: &mut usize,
+) -> u32
+    ensures { λ r. ⌜ (r ≡ editedFace (answer (setPlan (now (key .entry)) (now (value .entry)) count (now (area .entry)) (length (now (out .entry))))) (now (items .entry)) (now (written .entry)) .reply) × (now (items .exit) ≡ editedFace (answer (setPlan (now (key .entry)) (now (value .entry)) count (now (area .entry)) (length (now (out .entry))))) (now (items .entry)) (now (written .entry)) .items) × (now (written .exit) ≡ editedFace (answer (setPlan (now (key .entry)) (now (value .entry)) count (now (area .entry)) (length (now (out .entry))))) (now (items .entry)) (now (written .entry)) .written) × (now (out .exit) ≡ over (bytes (setPlan (now (key .entry)) (now (value .entry)) count (now (area .entry)) (length (now (out .entry))))) (now (out .entry))) ⌝ }
+{
+    let e = area_edit::set(area, count, key, value, out);
+    edited(e, items, written)
+}
+
+// The area without the items that have this key. Refusals 12, 3 and 5.
+#[no_mangle]
+pub extern "C" fn zib_remove(
+    area: &[u8],
+    count: usize,
+    key: &[u8],
+    out: &mut [u8],
+    items: &mut usize,
+    written: &mut usize,
+) -> u32
+    ensures { λ r. ⌜ (r ≡ editedFace (answer (removePlan (now (key .entry)) count (now (area .entry)) (length (now (out .entry))))) (now (items .entry)) (now (written .entry)) .reply) × (now (items .exit) ≡ editedFace (answer (removePlan (now (key .entry)) count (now (area .entry)) (length (now (out .entry))))) (now (items .entry)) (now (written .entry)) .items) × (now (written .exit) ≡ editedFace (answer (removePlan (now (key .entry)) count (now (area .entry)) (length (now (out .entry))))) (now (items .entry)) (now (written .entry)) .written) × (now (out .exit) ≡ over (bytes (removePlan (now (key .entry)) count (now (area .entry)) (length (now (out .entry))))) (now (out .entry))) ⌝ }
+{
+    let e = area_edit::remove(area, count, key, out);
+    edited(e, items, written)
+}
+
+// The area without REPLAYGAIN_KEYS. Refusals 12 and 5.
+#[no_mangle]
+pub extern "C" fn zib_remove_replaygain(
+    area: &[u8],
+    count: usize,
+    out: &mut [u8],
+    items: &mut usize,
+    written: &mut usize,
+) -> u32
+    ensures { λ r. ⌜ (r ≡ editedFace (answer (dropPlan isReplayGain count (now (area .entry)) (length (now (out .entry))))) (now (items .entry)) (now (written .entry)) .reply) × (now (items .exit) ≡ editedFace (answer (dropPlan isReplayGain count (now (area .entry)) (length (now (out .entry))))) (now (items .entry)) (now (written .entry)) .items) × (now (written .exit) ≡ editedFace (answer (dropPlan isReplayGain count (now (area .entry)) (length (now (out .entry))))) (now (items .entry)) (now (written .entry)) .written) × (now (out .exit) ≡ over (bytes (dropPlan isReplayGain count (now (area .entry)) (length (now (out .entry))))) (now (out .entry))) ⌝ }
+{
+    let e = area_edit::remove_replaygain(area, count, out);
+    edited(e, items, written)
+}
+
+// The area without UNDONE_KEYS. Refusals 12 and 5.
+#[no_mangle]
+pub extern "C" fn zib_drop_undone(
+    area: &[u8],
+    count: usize,
+    out: &mut [u8],
+    items: &mut usize,
+    written: &mut usize,
+) -> u32
+    ensures { λ r. ⌜ (r ≡ editedFace (answer (dropPlan isUndone count (now (area .entry)) (length (now (out .entry))))) (now (items .entry)) (now (written .entry)) .reply) × (now (items .exit) ≡ editedFace (answer (dropPlan isUndone count (now (area .entry)) (length (now (out .entry))))) (now (items .entry)) (now (written .entry)) .items) × (now (written .exit) ≡ editedFace (answer (dropPlan isUndone count (now (area .entry)) (length (now (out .entry))))) (now (items .entry)) (now (written .entry)) .written) × (now (out .exit) ≡ over (bytes (dropPlan isUndone count (now (area .entry)) (length (now (out .entry))))) (now (out .entry))) ⌝ }
+{
+    let e = area_edit::drop_undone(area, count, out);
+    edited(e, items, written)
+}
+
+// The area without the eight keys of mp3gain. Refusals 12 and 5.
+#[no_mangle]
+pub extern "C" fn zib_take_mp3gain(
+    area: &[u8],
+    count: usize,
+    out: &mut [u8],
+    items: &mut usize,
+    written: &mut usize,
+) -> u32
+    ensures { λ r. ⌜ (r ≡ editedFace (answer (dropPlan isMp3gainKey count (now (area .entry)) (length (now (out .entry))))) (now (items .entry)) (now (written .entry)) .reply) × (now (items .exit) ≡ editedFace (answer (dropPlan isMp3gainKey count (now (area .entry)) (length (now (out .entry))))) (now (items .entry)) (now (written .entry)) .items) × (now (written .exit) ≡ editedFace (answer (dropPlan isMp3gainKey count (now (area .entry)) (length (now (out .entry))))) (now (items .entry)) (now (written .entry)) .written) × (now (out .exit) ≡ over (bytes (dropPlan isMp3gainKey count (now (area .entry)) (length (now (out .entry))))) (now (out .entry))) ⌝ }
+{
+    let e = area_edit::take_mp3gain(area, count, out);
+    edited(e, items, written)
+}
+
+// The area with an undo text of these numbers and this flag. Refusals 12 and 5.
+#[no_mangle]
+pub extern "C" fn zib_set_undo_gain(
+    area: &[u8],
+    count: usize,
+    left: i32,
+    right: i32,
+    wrap: bool,
+    out: &mut [u8],
+    items: &mut usize,
+    written: &mut usize,
+) -> u32
+    ensures { λ r. ⌜ (r ≡ editedFace (answer (setPlan undoKey (formatUndo left right wrap) count (now (area .entry)) (length (now (out .entry))))) (now (items .entry)) (now (written .entry)) .reply) × (now (items .exit) ≡ editedFace (answer (setPlan undoKey (formatUndo left right wrap) count (now (area .entry)) (length (now (out .entry))))) (now (items .entry)) (now (written .entry)) .items) × (now (written .exit) ≡ editedFace (answer (setPlan undoKey (formatUndo left right wrap) count (now (area .entry)) (length (now (out .entry))))) (now (items .entry)) (now (written .entry)) .written) × (now (out .exit) ≡ over (bytes (setPlan undoKey (formatUndo left right wrap) count (now (area .entry)) (length (now (out .entry))))) (now (out .entry))) ⌝ }
+{
+    let e = area_values::set_undo_gain(area, count, left, right, wrap, out);
+    edited(e, items, written)
+}
+
+// The area with a range text of these gains. Refusals 12 and 5.
+#[no_mangle]
+pub extern "C" fn zib_set_minmax(
+    area: &[u8],
+    count: usize,
+    least: u8,
+    greatest: u8,
+    out: &mut [u8],
+    items: &mut usize,
+    written: &mut usize,
+) -> u32
+    ensures { λ r. ⌜ (r ≡ editedFace (answer (setPlan minmaxKey (formatRange (record { least = least; greatest = greatest })) count (now (area .entry)) (length (now (out .entry))))) (now (items .entry)) (now (written .entry)) .reply) × (now (items .exit) ≡ editedFace (answer (setPlan minmaxKey (formatRange (record { least = least; greatest = greatest })) count (now (area .entry)) (length (now (out .entry))))) (now (items .entry)) (now (written .entry)) .items) × (now (written .exit) ≡ editedFace (answer (setPlan minmaxKey (formatRange (record { least = least; greatest = greatest })) count (now (area .entry)) (length (now (out .entry))))) (now (items .entry)) (now (written .entry)) .written) × (now (out .exit) ≡ over (bytes (setPlan minmaxKey (formatRange (record { least = least; greatest = greatest })) count (now (area .entry)) (length (now (out .entry))))) (now (out .entry))) ⌝ }
+{
+    let e = area_values::set_minmax(area, count, least, greatest, out);
+    edited(e, items, written)
+}

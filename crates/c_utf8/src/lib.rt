@@ -1,0 +1,31 @@
+// The faces of crate utf8.
+ghost use mathlib.Core.Path.{_≡_};
+ghost use lib.ListN.{length};
+ghost use Rattle.lists.specs.Write.{over};
+ghost use Rattle.utf8.specs.Utf8.{valid, lossy};
+ghost use Rattle.utf8.specs.Write.{within, answer, bytes};
+ghost use Rattle.c_utf8.specs.Utf8Face.{conversion};
+use utf8::Converted;
+
+// Whether the text is well-formed UTF-8.
+#[no_mangle]
+pub extern "C" fn zib_is_utf8(text: &[u8]) -> bool
+    ensures { λ r. ⌜ r ≡ valid (now (text .entry)) ⌝ }
+{
+    utf8::is_utf8(text)
+}
+
+// Writes the text, with U+FFFD in place of each ill-formed part, at the front of `out`, and its length into `written`. Refusal 5.
+#[no_mangle]
+pub extern "C" fn zib_lossy_into(text: &[u8], out: &mut [u8], written: &mut usize) -> u32
+    ensures { λ r. ⌜ (r ≡ conversion (answer (within (length (now (out .entry))) (lossy (now (text .entry))))) (now (written .entry)) .reply) × (now (written .exit) ≡ conversion (answer (within (length (now (out .entry))) (lossy (now (text .entry))))) (now (written .entry)) .written) × (now (out .exit) ≡ over (bytes (within (length (now (out .entry))) (lossy (now (text .entry))))) (now (out .entry))) ⌝ }
+{
+    let x = utf8::lossy_into(text, out);
+    match x {
+        Converted::Done(n) => {
+            *written = n;
+            0
+        }
+        Converted::NoRoom => 5,
+    }
+}

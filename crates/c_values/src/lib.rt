@@ -1,0 +1,174 @@
+// The faces of crates values and slip.
+ghost use mathlib.Core.Path.{_≡_};
+ghost use Prim.Native.Nat.{_≤_};
+ghost use lib.ListN.{length, take};
+ghost use Rattle.values.specs.Undo.{parseUndo, undoWraps, formatUndo, accumulated};
+ghost use Rattle.values.specs.Range.{formatRange};
+ghost use Rattle.values.specs.Stored.{rangeWrapsOut, shiftStored};
+ghost use Rattle.slip.specs.Slip.{readSlip};
+ghost use Rattle.c_values.specs.ValuesFace.{flag, wraps, textFace, shiftFace, slipFace};
+use decimal::Text;
+use frame::GainMode;
+use frame::GainSteps;
+use slip::Slip;
+
+// A flag as a number.
+fn flag_number(yes: bool) -> u32
+    ensures { λ r. ⌜ r ≡ flag yes ⌝ }
+{
+    if yes {
+        return 1;
+    }
+    0
+}
+
+// A mode as a number.
+fn mode_number(mode: GainMode) -> u32
+    ensures { λ r. ⌜ r ≡ wraps mode ⌝ }
+{
+    match mode {
+        GainMode::Saturating => 0,
+        GainMode::Wrapping => 1,
+    }
+}
+
+// Writes a text at the front of `out`, and its length into `written`. Refusal 5.
+fn put_text(text: Text, out: &mut [u8], written: &mut usize) -> u32
+    requires { ⌜ text .len ≤ length (text .bytes) ⌝ }
+    ensures { λ r. ⌜ (r ≡ textFace (take (text .len) (text .bytes)) (now (out .entry)) (now (written .entry)) .reply) × (now (written .exit) ≡ textFace (take (text .len) (text .bytes)) (now (out .entry)) (now (written .entry)) .written) × (now (out .exit) ≡ textFace (take (text .len) (text .bytes)) (now (out .entry)) (now (written .entry)) .out) ⌝ }
+{
+    let n = text.len;
+    if out.len() < n {
+        return 5;
+    }
+    let bytes = text.bytes;
+    *written = lists::put(out, 0, &bytes[0..n]);
+    0
+}
+
+// The two numbers of an undo text, and whether it has the flag W. A missing text is lent as an empty one.
+#[no_mangle]
+pub extern "C" fn zib_parse_undo(
+    text: &[u8],
+    left: &mut i32,
+    right: &mut i32,
+    wrap: &mut u32,
+) -> u32
+    ensures { λ r. ⌜ (r ≡ 0) × (now (left .exit) ≡ parseUndo (now (text .entry)) .left) × (now (right .exit) ≡ parseUndo (now (text .entry)) .right) × (now (wrap .exit) ≡ flag (undoWraps (now (text .entry)))) ⌝ }
+{
+    let undo = values::parse_undo_values(text);
+    let a = undo.left;
+    let b = undo.right;
+    *left = a;
+    *right = b;
+    *wrap = flag_number(values::parse_undo_wrap(text));
+    0
+}
+
+// The undo text of two numbers and a flag. Refusal 5.
+#[no_mangle]
+pub extern "C" fn zib_format_undo_value(
+    left: i32,
+    right: i32,
+    wrap: bool,
+    out: &mut [u8],
+    written: &mut usize,
+) -> u32
+    ensures { λ r. ⌜ (r ≡ textFace (formatUndo left right wrap) (now (out .entry)) (now (written .entry)) .reply) × (now (written .exit) ≡ textFace (formatUndo left right wrap) (now (out .entry)) (now (written .entry)) .written) × (now (out .exit) ≡ textFace (formatUndo left right wrap) (now (out .entry)) (now (written .entry)) .out) ⌝ }
+{
+    let text = values::format_undo_value(left, right, wrap);
+    put_text(text, out, written)
+}
+
+// The undo numbers after a further apply.
+#[no_mangle]
+pub extern "C" fn zib_accumulate_undo(
+    text: &[u8],
+    left: i32,
+    right: i32,
+    newleft: &mut i32,
+    newright: &mut i32,
+) -> u32
+    ensures { λ r. ⌜ (r ≡ 0) × (now (newleft .exit) ≡ accumulated (now (text .entry)) left right .left) × (now (newright .exit) ≡ accumulated (now (text .entry)) left right .right) ⌝ }
+{
+    let undo = values::accumulate_undo(text, GainSteps(left), GainSteps(right));
+    let a = undo.left;
+    let b = undo.right;
+    *newleft = a;
+    *newright = b;
+    0
+}
+
+// The text of a range. Refusal 5.
+#[no_mangle]
+pub extern "C" fn zib_format_minmax(
+    least: u8,
+    greatest: u8,
+    out: &mut [u8],
+    written: &mut usize,
+) -> u32
+    ensures { λ r. ⌜ (r ≡ textFace (formatRange (record { least = least; greatest = greatest })) (now (out .entry)) (now (written .entry)) .reply) × (now (written .exit) ≡ textFace (formatRange (record { least = least; greatest = greatest })) (now (out .entry)) (now (written .entry)) .written) × (now (out .exit) ≡ textFace (formatRange (record { least = least; greatest = greatest })) (now (out .entry)) (now (written .entry)) .out) ⌝ }
+{
+    let text = values::format_minmax(least, greatest);
+    put_text(text, out, written)
+}
+
+// Whether an item is a range of which a number leaves 0..255.
+#[no_mangle]
+pub extern "C" fn zib_range_wraps_out(key: &[u8], value: &[u8], steps: i32) -> bool
+    ensures { λ r. ⌜ r ≡ rangeWrapsOut (now (key .entry)) (now (value .entry)) steps ⌝ }
+{
+    values::range_wraps_out(key, value, GainSteps(steps))
+}
+
+// A stored value after so many steps: `moved` is 1 and the new text stands in `out`, or it is 0 and the value stays as found. Refusal 5.
+#[no_mangle]
+pub extern "C" fn zib_shift_stored_value(
+    key: &[u8],
+    value: &[u8],
+    steps: i32,
+    moved: &mut u32,
+    out: &mut [u8],
+    written: &mut usize,
+) -> u32
+    ensures { λ r. ⌜ (r ≡ shiftFace (shiftStored (now (key .entry)) (now (value .entry)) steps) (now (out .entry)) (now (moved .entry)) (now (written .entry)) .reply) × (now (moved .exit) ≡ shiftFace (shiftStored (now (key .entry)) (now (value .entry)) steps) (now (out .entry)) (now (moved .entry)) (now (written .entry)) .moved) × (now (written .exit) ≡ shiftFace (shiftStored (now (key .entry)) (now (value .entry)) steps) (now (out .entry)) (now (moved .entry)) (now (written .entry)) .written) × (now (out .exit) ≡ shiftFace (shiftStored (now (key .entry)) (now (value .entry)) steps) (now (out .entry)) (now (moved .entry)) (now (written .entry)) .out) ⌝ }
+{
+    let s = values::shift_stored_value(key, value, GainSteps(steps));
+    if !s.moved {
+        *moved = 0;
+        *written = 0;
+        return 0;
+    }
+    let reply = put_text(s.text, out, written);
+    if reply == 0 {
+        *moved = 1;
+    }
+    reply
+}
+
+// Reads a level slip: the steps of either side, and whether they wrap. Refusals 13 and 2.
+#[no_mangle]
+pub extern "C" fn zib_parse_slip(
+    text: &[u8],
+    left: &mut i32,
+    right: &mut i32,
+    wrap: &mut u32,
+) -> u32
+    ensures { λ r. ⌜ (r ≡ slipFace (readSlip (now (text .entry))) (now (left .entry)) (now (right .entry)) (now (wrap .entry)) .reply) × (now (left .exit) ≡ slipFace (readSlip (now (text .entry))) (now (left .entry)) (now (right .entry)) (now (wrap .entry)) .left) × (now (right .exit) ≡ slipFace (readSlip (now (text .entry))) (now (left .entry)) (now (right .entry)) (now (wrap .entry)) .right) × (now (wrap .exit) ≡ slipFace (readSlip (now (text .entry))) (now (left .entry)) (now (right .entry)) (now (wrap .entry)) .wrap) ⌝ }
+{
+    let s = slip::parse_slip(text);
+    match s {
+        Slip::Steps(wish) => {
+            let a = wish.left;
+            let b = wish.right;
+            let l = a.0;
+            let r = b.0;
+            *left = l;
+            *right = r;
+            let mode = wish.mode;
+            *wrap = mode_number(mode);
+            0
+        }
+        Slip::Refused(r) => replies::number(r),
+    }
+}
