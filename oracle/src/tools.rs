@@ -148,7 +148,9 @@ pub struct Record {
 
 impl Record {
     pub fn new(name: &'static str, seed: u64) -> Self {
-        let text = format!("# The published Rust's answers, written by `oracle record --seed {seed}`.\n");
+        let text = format!(
+            "# Answers of the published Rust, and document 01's where it decides otherwise, written by `oracle record --seed {seed}`.\n"
+        );
         Record { name, rng: Rng::new(seed), text }
     }
 
