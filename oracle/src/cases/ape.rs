@@ -189,7 +189,7 @@ fn id3v1(rng: &mut Rng) -> Vec<u8> {
 }
 
 /// A file with a tag at its end, right or wrong in one of many ways.
-fn random_file(rng: &mut Rng) -> Vec<u8> {
+pub fn random_file(rng: &mut Rng) -> Vec<u8> {
     let before = [0, 1, 31, 32, 33, 100, 200][rng.below(7)];
     let mut file = rng.bytes(before);
     if rng.below(3) == 0 {

@@ -3,6 +3,7 @@
 use crate::tools::{Bench, Compare, Record};
 
 mod ape;
+mod edit;
 mod frame;
 mod items;
 mod utf8;
@@ -16,4 +17,4 @@ pub struct Case {
     pub bench: fn(&mut Bench),
 }
 
-pub const ALL: &[Case] = &[frame::CASE, ape::CASE, items::CASE, utf8::CASE, values::CASE];
+pub const ALL: &[Case] = &[frame::CASE, ape::CASE, items::CASE, utf8::CASE, values::CASE, edit::CASE];

@@ -1,0 +1,50 @@
+// The faces of crate edit: set and remove on a file.
+ghost use mathlib.Core.Path.{_≡_};
+ghost use lib.ListN.{length};
+ghost use Rattle.lists.specs.Write.{over};
+ghost use Rattle.ape_write.specs.Answers.{writtenAnswer, writtenBytes};
+ghost use Rattle.calls.specs.Calls.{setPlan, removePlan};
+ghost use Rattle.c_ape.specs.ApeFace.{writtenFace};
+use ape_write::Written;
+
+// The file with this value at the first item with this key, or with one more item, written to the front of `out`, and its length into
+// `written`. Refusals 1, 3, 4, 8, 6 and 5.
+#[no_mangle]
+pub extern "C" fn zib_set_ape_item(
+    file: &[u8],
+    key: &[u8],
+    value: &[u8],
+    out: &mut [u8],
+    written: &mut usize,
+) -> u32
+    ensures { λ r. ⌜ (r ≡ writtenFace (writtenAnswer (setPlan (now (file .entry)) (now (key .entry)) (now (value .entry)) (length (now (out .entry))))) (now (written .entry)) .reply) × (now (written .exit) ≡ writtenFace (writtenAnswer (setPlan (now (file .entry)) (now (key .entry)) (now (value .entry)) (length (now (out .entry))))) (now (written .entry)) .written) × (now (out .exit) ≡ over (writtenBytes (setPlan (now (file .entry)) (now (key .entry)) (now (value .entry)) (length (now (out .entry))))) (now (out .entry))) ⌝ }
+{
+    let w = edit::set_ape_item(file, key, value, out);
+    match w {
+        Written::Done(n) => {
+            *written = n;
+            0
+        }
+        Written::Refused(r) => replies::number(r),
+    }
+}
+
+// The file without the items with this key, written to the front of `out`, and its length into `written`. Refusals 1, 3, 8, 6 and 5.
+#[no_mangle]
+pub extern "C" fn zib_remove_ape_item(
+    file: &[u8],
+    key: &[u8],
+    out: &mut [u8],
+    written: &mut usize,
+) -> u32
+    ensures { λ r. ⌜ (r ≡ writtenFace (writtenAnswer (removePlan (now (file .entry)) (now (key .entry)) (length (now (out .entry))))) (now (written .entry)) .reply) × (now (written .exit) ≡ writtenFace (writtenAnswer (removePlan (now (file .entry)) (now (key .entry)) (length (now (out .entry))))) (now (written .entry)) .written) × (now (out .exit) ≡ over (writtenBytes (removePlan (now (file .entry)) (now (key .entry)) (length (now (out .entry))))) (now (out .entry))) ⌝ }
+{
+    let w = edit::remove_ape_item(file, key, out);
+    match w {
+        Written::Done(n) => {
+            *written = n;
+            0
+        }
+        Written::Refused(r) => replies::number(r),
+    }
+}

@@ -1,0 +1,129 @@
+// Replays the recorded answers for crates edit and level.
+use ape_write::Written;
+use level::LevelAnswer;
+use vectors::Tally;
+
+// Whether the word at this place is the hex of these bytes.
+fn is_hex(text: &[u8], at: usize, bytes: &[u8]) -> bool {
+    let mut wanted = [0u8; 2048];
+    let n = vectors::hex_bytes(text, at, &mut wanted);
+    lists::equal(&wanted[0..n], bytes)
+}
+
+// Whether an answer is that of the two words from this place: `0` and the file, or the number of a refusal and `-`.
+fn answered(text: &[u8], at: usize, w: Written, out: &[u8]) -> bool {
+    let reply = vectors::unsigned(text, at);
+    match w {
+        Written::Done(n) => {
+            if reply != 0 {
+                return false;
+            }
+            if out.len() < n {
+                return false;
+            }
+            is_hex(text, vectors::next_word(text, at), &out[0..n])
+        }
+        Written::Refused(r) => reply == replies::number(r) as u64,
+    }
+}
+
+// `set FILE KEY VALUE REPLY FILE`.
+fn set(text: &[u8], at: usize) -> bool {
+    let mut file = [0u8; 2048];
+    let n = vectors::hex_bytes(text, at, &mut file);
+    let key_at = vectors::next_word(text, at);
+    let mut key = [0u8; 256];
+    let k = vectors::hex_bytes(text, key_at, &mut key);
+    let value_at = vectors::next_word(text, key_at);
+    let mut value = [0u8; 256];
+    let v = vectors::hex_bytes(text, value_at, &mut value);
+    let mut out = [0u8; 4096];
+    let w = edit::set_ape_item(&file[0..n], &key[0..k], &value[0..v], &mut out);
+    answered(text, vectors::next_word(text, value_at), w, &out)
+}
+
+// `remove FILE KEY REPLY FILE`.
+fn remove(text: &[u8], at: usize) -> bool {
+    let mut file = [0u8; 2048];
+    let n = vectors::hex_bytes(text, at, &mut file);
+    let key_at = vectors::next_word(text, at);
+    let mut key = [0u8; 256];
+    let k = vectors::hex_bytes(text, key_at, &mut key);
+    let mut out = [0u8; 4096];
+    let w = edit::remove_ape_item(&file[0..n], &key[0..k], &mut out);
+    answered(text, vectors::next_word(text, key_at), w, &out)
+}
+
+// Whether undo answers the four words from this place: the reply, the file, and the gains afterwards, also of a refused call.
+fn undone(text: &[u8], at: usize, file: &[u8], left: &mut [u8], right: &mut [u8]) -> bool {
+    let mut out = [0u8; 4096];
+    let u = level::undo(file, left, right, &mut out);
+    let w = match u {
+        LevelAnswer::Done { length, peaks: _ } => Written::Done(length),
+        LevelAnswer::Refused(reason) => Written::Refused(reason),
+    };
+    if !answered(text, at, w, &out) {
+        return false;
+    }
+    let left_after = vectors::next_word(text, vectors::next_word(text, at));
+    if !is_hex(text, left_after, left) {
+        return false;
+    }
+    is_hex(text, vectors::next_word(text, left_after), right)
+}
+
+// `undo FILE LEFT RIGHT REPLY FILE LEFT RIGHT`.
+fn undo(text: &[u8], at: usize) -> bool {
+    let mut file = [0u8; 2048];
+    let n = vectors::hex_bytes(text, at, &mut file);
+    let left_at = vectors::next_word(text, at);
+    let mut left = [0u8; 64];
+    let l = vectors::hex_bytes(text, left_at, &mut left);
+    let right_at = vectors::next_word(text, left_at);
+    let mut right = [0u8; 64];
+    let r = vectors::hex_bytes(text, right_at, &mut right);
+    undone(
+        text,
+        vectors::next_word(text, right_at),
+        &file[0..n],
+        &mut left[0..l],
+        &mut right[0..r],
+    )
+}
+
+// Whether the answer in the line at this place is the library's.
+fn agrees(text: &[u8], at: usize) -> bool {
+    let from = vectors::next_word(text, at);
+    if lists::starts_with(text, at, b"set ") {
+        return set(text, from);
+    }
+    if lists::starts_with(text, at, b"remove ") {
+        return remove(text, from);
+    }
+    if lists::starts_with(text, at, b"undo ") {
+        return undo(text, from);
+    }
+    false
+}
+
+fn replay(text: &[u8]) -> Tally {
+    let mut answers: u64 = 0;
+    let mut differ: u64 = 0;
+    let mut at = 0;
+    while at < text.len() {
+        if vectors::is_answer(text, at) {
+            answers = std::num::wrapping_add_u64(answers, 1);
+            if !agrees(text, at) {
+                differ = std::num::wrapping_add_u64(differ, 1);
+            }
+        }
+        at = vectors::next_line(text, at);
+    }
+    Tally { answers, differ }
+}
+
+fn main() {
+    let mut text = vectors::buffer();
+    let n = io::read_full(0, &mut text);
+    vectors::report(b"edit", replay(&text[..n]));
+}

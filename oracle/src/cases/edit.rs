@@ -1,0 +1,453 @@
+//! Crates `edit` and `level`: set and remove on a file, and undo on a file and its gains.
+//!
+//! The editing gate and the refusals are not in the published Rust: they are read here a second time from document 01. What an
+//! accepted call does to the tag, the file and the gains is the published Rust's.
+
+use super::ape::{area_of, is_area, item, random_file, tag_of, written};
+use super::Case;
+use crate::ape::{find_ape_footer, parse_undo_values, parse_undo_wrap, reach, read_ape_tag, ApeTag};
+use crate::frame::{adjust_gain_value, read_u32_le, GainMode};
+use crate::tools::{hex, Bench, Compare, Record, Rng};
+
+pub const CASE: Case = Case { name: "edit", record, compare, bench };
+
+/// The declarations, as Rust, and safe wrappers. A refusal is `Err` with its number.
+pub mod library {
+    extern "C" {
+        fn zib_set_ape_item(
+            file: *const u8,
+            length: usize,
+            key: *const u8,
+            key_length: usize,
+            value: *const u8,
+            value_length: usize,
+            out: *mut u8,
+            room: usize,
+            written: *mut usize,
+        ) -> u32;
+        fn zib_remove_ape_item(
+            file: *const u8,
+            length: usize,
+            key: *const u8,
+            key_length: usize,
+            out: *mut u8,
+            room: usize,
+            written: *mut usize,
+        ) -> u32;
+        fn zib_undo(
+            file: *const u8,
+            length: usize,
+            left: *mut u8,
+            left_length: usize,
+            right: *mut u8,
+            right_length: usize,
+            out: *mut u8,
+            room: usize,
+            written: *mut usize,
+            peaks: *mut usize,
+        ) -> u32;
+    }
+
+    fn done<T>(reply: u32, result: T) -> Result<T, u32> {
+        if reply == 0 {
+            Ok(result)
+        } else {
+            Err(reply)
+        }
+    }
+
+    pub fn set_ape_item(file: &[u8], key: &[u8], value: &[u8], out: &mut [u8]) -> Result<usize, u32> {
+        let mut written = 7;
+        // SAFETY: pointers and lengths of slices; the lent numbers live through the call. So below.
+        let reply = unsafe {
+            let (f, k, v, o) = (file.as_ptr(), key.as_ptr(), value.as_ptr(), out.as_mut_ptr());
+            zib_set_ape_item(f, file.len(), k, key.len(), v, value.len(), o, out.len(), &mut written)
+        };
+        done(reply, written)
+    }
+
+    pub fn remove_ape_item(file: &[u8], key: &[u8], out: &mut [u8]) -> Result<usize, u32> {
+        let mut written = 7;
+        let reply = unsafe {
+            let (f, k, o) = (file.as_ptr(), key.as_ptr(), out.as_mut_ptr());
+            zib_remove_ape_item(f, file.len(), k, key.len(), o, out.len(), &mut written)
+        };
+        done(reply, written)
+    }
+
+    /// The length of the file and the number of its peak items.
+    pub fn undo(file: &[u8], left: &mut [u8], right: &mut [u8], out: &mut [u8]) -> Result<(usize, usize), u32> {
+        let (mut written, mut peaks) = (7, 7);
+        let reply = unsafe {
+            let (f, o) = (file.as_ptr(), out.as_mut_ptr());
+            let (l, r) = (left.as_mut_ptr(), right.as_mut_ptr());
+            zib_undo(f, file.len(), l, left.len(), r, right.len(), o, out.len(), &mut written, &mut peaks)
+        };
+        done(reply, (written, peaks))
+    }
+}
+
+const LIMIT: usize = 16_777_216;
+const EIGHT: [&str; 8] = [
+    "MP3GAIN_UNDO",
+    "MP3GAIN_MINMAX",
+    "MP3GAIN_ALBUM_MINMAX",
+    "REPLAYGAIN_TRACK_GAIN",
+    "REPLAYGAIN_TRACK_PEAK",
+    "REPLAYGAIN_ALBUM_GAIN",
+    "REPLAYGAIN_ALBUM_PEAK",
+    "REPLAYGAIN_ALGORITHM",
+];
+
+/// Document 01's limits of refusal 6.
+fn fits(tag: &ApeTag) -> bool {
+    tag.len() <= 256 && area_of(tag).len() <= 32_768
+}
+
+/// Document 01's editing gate: the items of a file that is fit for editing.
+fn gate(file: &[u8]) -> Option<ApeTag> {
+    let Some(footer) = find_ape_footer(file) else { return Some(ApeTag::new()) };
+    let number = |at: usize| read_u32_le(&file[footer + at..]) as usize;
+    let (version, size, count, header) = (number(8), number(12), number(16), number(20) >> 31);
+    if version != 2000 || size < 32 || footer + 32 < size + 32 * header {
+        return None;
+    }
+    let area = &file[footer + 32 - size..footer];
+    if count > 256 || area.len() > 32_768 || !is_area(area, count) {
+        return None;
+    }
+    let mut items = Vec::new();
+    let mut rest = area;
+    while !rest.is_empty() {
+        let length = read_u32_le(rest) as usize;
+        let key = rest[8..].iter().position(|&b| b == 0)?;
+        let value = &rest[8 + key + 1..][..length];
+        items.push(item(std::str::from_utf8(&rest[8..8 + key]).ok()?, std::str::from_utf8(value).ok()?));
+        rest = &rest[8 + key + 1 + length..];
+    }
+    Some(tag_of(items))
+}
+
+/// Document 01's rule for a key.
+fn is_key(key: &[u8]) -> bool {
+    let reserved = [&b"ID3"[..], b"TAG", b"OggS", b"MP+"];
+    (2..=255).contains(&key.len())
+        && key.iter().all(|b| (0x20..=0x7E).contains(b))
+        && !reserved.iter().any(|r| key.eq_ignore_ascii_case(r))
+}
+
+/// The file with its tag replaced, if the tag keeps the limits and the file is not too long.
+fn finish(file: &[u8], tag: &ApeTag) -> Result<Vec<u8>, u32> {
+    if !fits(tag) {
+        return Err(6);
+    }
+    let new = reach::replace(file, tag);
+    if new.len() > LIMIT {
+        Err(5)
+    } else {
+        Ok(new)
+    }
+}
+
+fn published_set(file: &[u8], key: &[u8], value: &[u8]) -> Result<Vec<u8>, u32> {
+    if file.len() > LIMIT {
+        return Err(1);
+    }
+    if !is_key(key) {
+        return Err(3);
+    }
+    let value = std::str::from_utf8(value).map_err(|_| 4u32)?;
+    let mut tag = gate(file).ok_or(8u32)?;
+    tag.set(std::str::from_utf8(key).unwrap(), value);
+    finish(file, &tag)
+}
+
+fn published_remove(file: &[u8], key: &[u8]) -> Result<Vec<u8>, u32> {
+    if file.len() > LIMIT {
+        return Err(1);
+    }
+    if !is_key(key) {
+        return Err(3);
+    }
+    let mut tag = gate(file).ok_or(8u32)?;
+    tag.remove(std::str::from_utf8(key).unwrap());
+    finish(file, &tag)
+}
+
+/// What undo leaves: the file, both gain lists, and the number of peak items.
+#[derive(PartialEq, Debug)]
+struct Undone {
+    file: Vec<u8>,
+    left: Vec<u8>,
+    right: Vec<u8>,
+    peaks: usize,
+}
+
+fn published_undo(file: &[u8], left: &[u8], right: &[u8]) -> Result<Undone, u32> {
+    if file.len() > LIMIT {
+        return Err(1);
+    }
+    if left.is_empty() {
+        return Err(7);
+    }
+    let mut tag = gate(file).ok_or(8u32)?;
+    let text = tag.get("MP3GAIN_UNDO").ok_or(10u32)?.to_string();
+    let (left_steps, right_steps) = parse_undo_values(Some(&text));
+    let mode = || GainMode::from_wrap(parse_undo_wrap(Some(&text)));
+    let moved = |gains: &[u8], steps| gains.iter().map(|&g| adjust_gain_value(g, steps, mode())).collect::<Vec<_>>();
+    for key in EIGHT {
+        tag.remove(key);
+    }
+    Ok(Undone {
+        file: reach::replace(file, &tag),
+        left: moved(left, left_steps),
+        right: moved(right, right_steps),
+        peaks: 0,
+    })
+}
+
+/// Undo with ample room, with exact room, and with one byte less. Panics where a refused call changed something.
+fn our_undo(file: &[u8], left: &[u8], right: &[u8]) -> Result<Undone, u32> {
+    let call = |room: usize| {
+        let (mut l, mut r, mut out) = (left.to_vec(), right.to_vec(), vec![0xC3; room]);
+        let reply = library::undo(file, &mut l, &mut r, &mut out);
+        match reply {
+            Ok((n, peaks)) => {
+                assert!(out[n..].iter().all(|&b| b == 0xC3), "wrote past its length");
+                out.truncate(n);
+                Ok(Undone { file: out, left: l, right: r, peaks })
+            }
+            Err(reason) => {
+                assert!(l == left && r == right && out.iter().all(|&b| b == 0xC3), "a refused undo changed something");
+                Err(reason)
+            }
+        }
+    };
+    let ample = call(file.len() + 16)?;
+    let n = ample.file.len();
+    assert_eq!(call(n).as_ref(), Ok(&ample), "exact room");
+    if n > 0 {
+        assert_eq!(call(n - 1), Err(5), "one byte short");
+    }
+    Ok(ample)
+}
+
+/// The key with the case of some letters turned.
+fn turned(rng: &mut Rng, key: &str) -> String {
+    let turn = |c: char, up| if up { c.to_ascii_uppercase() } else { c.to_ascii_lowercase() };
+    key.chars().map(|c| turn(c, rng.below(2) == 0)).collect()
+}
+
+fn random_key(rng: &mut Rng) -> String {
+    let key = match rng.below(4) {
+        0 => "MP3GAIN_UNDO",
+        1 => rng.pick(&EIGHT),
+        _ => rng.pick(&["Title", "AB", "a=b", "REPLAYGAIN_TRACK_GAI", "MP3GAIN_UNDO2"]),
+    };
+    turned(rng, key)
+}
+
+fn random_value(rng: &mut Rng) -> String {
+    let texts = [
+        "",
+        "+003,+003,N",
+        "-012,+004,W",
+        "+255,-255,N",
+        " 7 , 8 , w ",
+        "-3,junk",
+        "junk,7",
+        "2147483647,-2147483648,W",
+        "010,200",
+        "+1.234567 dB",
+        "0.988553",
+        "\u{20AC}uro",
+        "p\u{0}q",
+    ];
+    rng.pick(&texts).to_string()
+}
+
+/// A file that mostly passes the gate: items with the eight keys and others, with and without ID3v1, some damaged.
+fn edited_file(rng: &mut Rng) -> Vec<u8> {
+    if rng.below(8) == 0 {
+        return random_file(rng);
+    }
+    let n = rng.below(7);
+    let items = (0..n).map(|_| item(&random_key(rng), &random_value(rng))).collect();
+    let length = rng.pick(&[0, 1, 32, 100, 128, 200]);
+    let mut front = rng.bytes(length);
+    if rng.below(3) == 0 {
+        front.extend_from_slice(b"TAG");
+        front.resize(length + 128, 0);
+    }
+    let mut file = reach::replace(&front, &tag_of(items));
+    if rng.below(6) == 0 && !file.is_empty() {
+        let at = file.len() - 1 - rng.below(file.len().min(200));
+        file[at] = rng.next() as u8;
+    }
+    file
+}
+
+fn edits(c: &mut Compare, file: &[u8], key: &[u8], value: &[u8]) {
+    let room = |s: &[u8]| s.len() + key.len() + value.len() + 200;
+    c.bytes(
+        "set_ape_item",
+        file,
+        |s| published_set(s, key, value),
+        |s| written(room(s), |out| library::set_ape_item(s, key, value, out)),
+    );
+    c.bytes(
+        "remove_ape_item",
+        file,
+        |s| published_remove(s, key),
+        |s| written(room(s), |out| library::remove_ape_item(s, key, out)),
+    );
+}
+
+/// An undo text with a byte of hex 80 or more is outside the compared domain.
+fn in_domain(file: &[u8]) -> bool {
+    gate(file).is_none_or(|tag| tag.get("MP3GAIN_UNDO").is_none_or(str::is_ascii))
+}
+
+fn undoes(c: &mut Compare, file: &[u8], left: &[u8], right: &[u8]) {
+    if in_domain(file) {
+        let published = |s: &[u8]| if in_domain(s) { published_undo(s, left, right) } else { Err(0) };
+        let ours = |s: &[u8]| if in_domain(s) { our_undo(s, left, right) } else { Err(0) };
+        c.bytes("undo", file, published, ours);
+    }
+}
+
+fn compare(c: &mut Compare) {
+    let long = vec![b'k'; 256];
+    let keys = [
+        &b""[..],
+        b"A",
+        b"AB",
+        b"id3",
+        b"tag",
+        b"OGGS",
+        b"mp+",
+        b"ID33",
+        b"a\x1F",
+        b"a\x7F",
+        b"a\xC3",
+        &long,
+        &long[1..],
+    ];
+    let good =
+        reach::replace(b"audio", &tag_of(vec![item("AB", "c"), item("mp3gain_undo", "+003,-002,W"), item("ab", "d")]));
+    for key in keys {
+        for value in [&b""[..], b"x", b"\xFF", b"\xED\xA0\x80"] {
+            edits(c, &good, key, value);
+            edits(c, b"", key, value);
+        }
+    }
+    // Every truncation and every change of one byte of a good file.
+    for at in 0..good.len() {
+        edits(c, &good[..at], b"Ab", b"new");
+        undoes(c, &good[..at], b"\x00\x01\x80", b"\xFF");
+        for value in 0..=255 {
+            let mut other = good.clone();
+            other[at] = value;
+            edits(c, &other, b"Ab", b"new");
+            undoes(c, &other, b"\x00\x01\x80", b"\xFF");
+        }
+    }
+    undoes(c, &good, b"", b"\x05");
+    // Refusal 6, from both sides: 255 to 257 items, and 32,767 to 32,769 bytes of items.
+    for n in 254..=257 {
+        let file = reach::replace(b"audio", &tag_of((0..n).map(|i| item(&format!("KEY_{i}"), "v")).collect()));
+        edits(c, &file, b"ONE_MORE", b"v");
+        edits(c, &file, b"key_0", b"");
+        undoes(c, &file, b"\x07", b"");
+    }
+    for n in 32_740..=32_775 {
+        let file = reach::replace(b"audio", &tag_of(vec![item("AB", &"v".repeat(n))]));
+        edits(c, &file, b"CD", b"v");
+        edits(c, &file, b"ab", b"v");
+        edits(c, b"audio", b"AB", &vec![b'v'; n]);
+    }
+    edits(c, b"audio", b"AB", &vec![b'v'; 70_000]);
+    for _ in 0..c.count / 3 {
+        let file = edited_file(&mut c.rng);
+        let key = random_key(&mut c.rng);
+        let value = random_value(&mut c.rng);
+        edits(c, &file, key.as_bytes(), value.as_bytes());
+        let (l, r) = (c.rng.below(6), c.rng.below(4));
+        let (left, right) = (c.rng.bytes(l), c.rng.bytes(r));
+        undoes(c, &file, &left, &right);
+    }
+    // The limit of 16,777,216 bytes, and one past it: files and results.
+    let file = vec![0x55; LIMIT + 1];
+    let mut out = vec![0; LIMIT + 100];
+    c.inputs += 5;
+    assert_eq!(library::set_ape_item(&file, b"A", b"\xFF", &mut out), Err(1));
+    assert_eq!(library::remove_ape_item(&file, b"A", &mut out), Err(1));
+    assert_eq!(library::undo(&file, &mut [], &mut [], &mut out), Err(1));
+    assert_eq!(library::set_ape_item(&file[..LIMIT - 75], b"AB", b"c", &mut out), Err(5));
+    assert_eq!(library::set_ape_item(&file[..LIMIT - 76], b"AB", b"c", &mut out), Ok(LIMIT));
+}
+
+fn record(r: &mut Record) {
+    let reply = |x: Result<Vec<u8>, u32>| match x {
+        Ok(bytes) => ("0".to_string(), hex(&bytes)),
+        Err(n) => (n.to_string(), "-".to_string()),
+    };
+    for _ in 0..220 {
+        let file = edited_file(&mut r.rng);
+        let key = random_key(&mut r.rng).into_bytes();
+        let value = random_value(&mut r.rng).into_bytes();
+        let (f, k, v) = (hex(&file), hex(&key), hex(&value));
+        let (n, bytes) = reply(published_set(&file, &key, &value));
+        r.line(&["set".into(), f.clone(), k.clone(), v, n, bytes]);
+        let (n, bytes) = reply(published_remove(&file, &key));
+        r.line(&["remove".into(), f.clone(), k, n, bytes]);
+        let (l, m) = (r.rng.below(6), r.rng.below(4));
+        let (left, right) = (r.rng.bytes(l), r.rng.bytes(m));
+        if in_domain(&file) {
+            let start = ["undo".into(), f, hex(&left), hex(&right)];
+            let end = match published_undo(&file, &left, &right) {
+                Ok(u) => ["0".into(), hex(&u.file), hex(&u.left), hex(&u.right)],
+                Err(n) => [n.to_string(), "-".into(), hex(&left), hex(&right)],
+            };
+            r.line(&[start, end].concat());
+        }
+    }
+}
+
+fn bench(b: &mut Bench) {
+    let value = "The quick brown fox jumps over the lazy dog";
+    let mut items: Vec<_> = (0..40).map(|i| item(&format!("KEY_{i:03}"), value)).collect();
+    items.push(item("MP3GAIN_UNDO", "+003,-002,W"));
+    let tag = tag_of(items);
+    for (size, name) in [(4 << 10, "4 KiB"), (1 << 20, "1 MiB"), ((16 << 20) - 8192, "16 MiB")] {
+        let file = reach::replace(&vec![0x55; size], &tag);
+        let mut out = vec![0; file.len() + 100];
+        b.row(
+            &format!("set on a file of {name}, 41 items (Rust: read, set, replace; no gate)"),
+            || {
+                let mut tag = read_ape_tag(&file).unwrap();
+                tag.set("KEY_020", "new");
+                reach::replace(&file, &tag)
+            },
+            || library::set_ape_item(&file, b"KEY_020", b"new", &mut out),
+        );
+        let (mut left, mut right) = (vec![100u8; 5_000], vec![100u8; 5_000]);
+        let (mut l, mut r) = (left.clone(), right.clone());
+        b.row(
+            &format!("undo on a file of {name}, 41 items, 10,000 gains (Rust: read, adjust, remove, replace; no gate)"),
+            || {
+                let mut tag = read_ape_tag(&file).unwrap();
+                let text = tag.get("MP3GAIN_UNDO").unwrap().to_string();
+                let (x, y) = parse_undo_values(Some(&text));
+                for (gains, steps) in [(&mut left, x), (&mut right, y)] {
+                    for g in gains.iter_mut() {
+                        *g = adjust_gain_value(*g, steps, GainMode::from_wrap(parse_undo_wrap(Some(&text))));
+                    }
+                }
+                EIGHT.iter().for_each(|key| tag.remove(key));
+                reach::replace(&file, &tag)
+            },
+            || library::undo(&file, &mut l, &mut r, &mut out),
+        );
+    }
+}
