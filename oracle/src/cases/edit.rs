@@ -439,9 +439,10 @@ fn bench(b: &mut Bench) {
                 let mut tag = read_ape_tag(&file).unwrap();
                 let text = tag.get("MP3GAIN_UNDO").unwrap().to_string();
                 let (x, y) = parse_undo_values(Some(&text));
+                let wrap = parse_undo_wrap(Some(&text));
                 for (gains, steps) in [(&mut left, x), (&mut right, y)] {
                     for g in gains.iter_mut() {
-                        *g = adjust_gain_value(*g, steps, GainMode::from_wrap(parse_undo_wrap(Some(&text))));
+                        *g = adjust_gain_value(*g, steps, GainMode::from_wrap(wrap));
                     }
                 }
                 EIGHT.iter().for_each(|key| tag.remove(key));
