@@ -6,7 +6,7 @@ use crate::tools::{hex, Bench, Compare, Record, Rng};
 
 pub const CASE: Case = Case { name: "ape", record, compare, bench };
 
-/// The declarations of `include/zibrunnos.h`, as Rust, and safe wrappers. A refusal is `Err` with its number.
+/// The exported functions, as Rust, and safe wrappers. A refusal is `Err` with its number.
 pub mod library {
     extern "C" {
         fn zib_find_ape_footer(file: *const u8, length: usize, there: *mut u32, footer: *mut usize) -> u32;

@@ -7,7 +7,7 @@ use std::hint::black_box;
 
 pub const CASE: Case = Case { name: "frame", record, compare, bench };
 
-/// The declarations of `include/zibrunnos.h`, as Rust.
+/// The exported functions, as Rust.
 mod library {
     extern "C" {
         fn zib_read_u32_le(bytes: *const u8, length: usize, at: usize, value: *mut u32) -> bool;

@@ -10,7 +10,7 @@ use std::cell::Cell;
 
 pub const CASE: Case = Case { name: "items", record, compare, bench };
 
-/// The declarations of `include/zibrunnos.h`, as Rust, and safe wrappers. A refusal is `Err` with its number.
+/// The exported functions, as Rust, and safe wrappers. A refusal is `Err` with its number.
 mod library {
     extern "C" {
         fn zib_is_key(key: *const u8, length: usize) -> bool;

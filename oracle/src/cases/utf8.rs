@@ -6,7 +6,7 @@ use crate::tools::{hex, Bench, Compare, Record, Rng};
 
 pub const CASE: Case = Case { name: "utf8", record, compare, bench };
 
-/// The declarations of `include/zibrunnos.h`, as Rust.
+/// The exported functions, as Rust.
 mod library {
     extern "C" {
         fn zib_is_utf8(text: *const u8, length: usize) -> bool;

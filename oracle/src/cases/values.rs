@@ -15,7 +15,7 @@ use std::hint::black_box;
 
 pub const CASE: Case = Case { name: "values", record, compare, bench };
 
-/// The declarations of `include/zibrunnos.h`, as Rust, and safe wrappers.
+/// The exported functions, as Rust, and safe wrappers.
 mod library {
     extern "C" {
         fn zib_parse_undo(text: *const u8, length: usize, left: *mut i32, right: *mut i32, wrap: *mut u32) -> u32;
