@@ -1,3 +1,4 @@
 pub mod Mapping
+pub mod Ranges
 pub mod Stored
 pub mod Undoing

@@ -1,11 +1,13 @@
 // Level and undo: every gain moved, and the file with the items that say so.
 ghost use mathlib.Core.Path.{_≡_};
 ghost use mathlib.Core.Bool.{true};
+ghost use mathlib.Core.List.{_++_};
+ghost use Prim.Native.Nat.{min, max};
 ghost use lib.ListN.{length};
 ghost use Rattle.lists.specs.Choice.{isSome};
 ghost use Rattle.lists.specs.Write.{over};
 ghost use Rattle.items.specs.Items.{parse, itemsIn};
-ghost use Rattle.calls.specs.Calls.{adjusted, storedUndo, undoPlan};
+ghost use Rattle.calls.specs.Calls.{adjusted, least, greatest, rangeOf, storedUndo, undoPlan};
 ghost use Rattle.level.specs.Answers.{levelAnswer, levelBytes, leftAfter, rightAfter, undoIs};
 use ape_write::Written;
 use area_edit::Drop;
@@ -13,6 +15,7 @@ use edit::Editable;
 use frame::GainMode;
 use frame::GainSteps;
 use replies::Refusal;
+use values::Range;
 
 // How long the new file is, and how many peak items its tag holds.
 pub enum LevelAnswer {
@@ -35,6 +38,67 @@ pub fn adjust_gains(gains: &mut [u8], steps: GainSteps, mode: GainMode)
         gains[i] = frame::adjust_gain_value(gains[i], steps, mode);
         i += 1;
     }
+}
+
+// The smaller of two.
+fn lesser(a: u8, b: u8) -> u8
+    ensures { λ r. ⌜ r ≡ min a b ⌝ }
+{
+    if b < a {
+        return b;
+    }
+    a
+}
+
+// The greater of two.
+fn greater(a: u8, b: u8) -> u8
+    ensures { λ r. ⌜ r ≡ max a b ⌝ }
+{
+    if a < b {
+        return b;
+    }
+    a
+}
+
+// A range that also holds the gains of a list as they will be.
+fn widened(range: Range, gains: &[u8], steps: GainSteps, mode: GainMode) -> Range
+    ensures { λ r. ⌜ (r .least ≡ min (range .least) (least (adjusted mode (steps .0) (now (gains .entry))))) × (r .greatest ≡ max (range .greatest) (greatest (adjusted mode (steps .0) (now (gains .entry))))) ⌝ }
+{
+    let mut low = range.least;
+    let mut high = range.greatest;
+    let mut i = 0;
+    while i < gains.len() {
+        let g = frame::adjust_gain_value(gains[i], steps, mode);
+        low = lesser(low, g);
+        high = greater(high, g);
+        i += 1;
+    }
+    Range {
+        least: low,
+        greatest: high,
+    }
+}
+
+// The range of all gains as they will be. No gain changes.
+pub fn range_after(
+    left: &[u8],
+    right: &[u8],
+    left_steps: GainSteps,
+    right_steps: GainSteps,
+    mode: GainMode,
+) -> Range
+    ensures { λ r. ⌜ r ≡ rangeOf (adjusted mode («left_steps» .0) (now (left .entry)) ++ adjusted mode («right_steps» .0) (now (right .entry))) ⌝ }
+{
+    let none = Range {
+        least: 255,
+        greatest: 0,
+    };
+    widened(
+        widened(none, left, left_steps, mode),
+        right,
+        right_steps,
+        mode,
+    )
 }
 
 // The undo numbers and the flag that the first undo item of a well-formed area holds.

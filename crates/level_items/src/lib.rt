@@ -1,0 +1,107 @@
+// The items that level leaves in a tag: stored values moved or dropped, then the undo item and the range of all gains set.
+ghost use mathlib.Core.Path.{_≡_};
+ghost use mathlib.Core.Bool.{true};
+ghost use Prim.Native.Nat.{_≤_};
+ghost use lib.ListN.{length};
+ghost use Rattle.lists.specs.Choice.{isSome};
+ghost use Rattle.lists.specs.Write.{over};
+ghost use Rattle.replies.specs.Limits.{fileLimit};
+ghost use Rattle.keys.specs.Keys.{undoKey, minmaxKey};
+ghost use Rattle.values.specs.Undo.{formatUndo};
+ghost use Rattle.values.specs.Range.{formatRange};
+ghost use Rattle.items.specs.Items.{areaBytes, parse, itemsIn, setItem};
+ghost use Rattle.calls.specs.Calls.{wraps as wrapsBy, countOf, isPeakKey};
+use area_edit::Measure;
+use frame::GainMode;
+use items::Stepped;
+use keys::Which;
+use values::Range;
+use values::UndoValues;
+
+// Whether the flag is W.
+fn wraps(mode: GainMode) -> bool
+    ensures { λ r. ⌜ r ≡ wrapsBy mode ⌝ }
+{
+    match mode {
+        GainMode::Saturating => false,
+        GainMode::Wrapping => true,
+    }
+}
+
+// Writes a well-formed area with this item set to the front of `out`.
+fn put_set(area: &[u8], count: usize, key: &[u8], value: &[u8], out: &mut [u8]) -> Measure
+    requires { ⌜ (isSome (parse count (now area)) ≡ true) × (length (now value) ≤ fileLimit) × (length (areaBytes (setItem (now key) (now value) (itemsIn count (now area)))) ≤ length (now out)) ⌝ }
+    ensures { λ r. ⌜ (r .count ≡ length (setItem (now (key .entry)) (now (value .entry)) (itemsIn count (now (area .entry))))) × (r .length ≡ length (areaBytes (setItem (now (key .entry)) (now (value .entry)) (itemsIn count (now (area .entry)))))) × (now (out .exit) ≡ over (areaBytes (setItem (now (key .entry)) (now (value .entry)) (itemsIn count (now (area .entry))))) (now (out .entry))) ⌝ }
+{
+    let p = items::locate(area, count, key);
+    area_edit::write_set(area, count, key, value, p, out)
+}
+
+// Writes a well-formed area with the undo item of these numbers to the front of `out`.
+fn put_undo(area: &[u8], count: usize, undo: UndoValues, mode: GainMode, out: &mut [u8]) -> Measure
+    requires { ⌜ (isSome (parse count (now area)) ≡ true) × (length (areaBytes (setItem undoKey (formatUndo (undo .left) (undo .right) (wrapsBy mode)) (itemsIn count (now area)))) ≤ length (now out)) ⌝ }
+    ensures { λ r. ⌜ (r .count ≡ length (setItem undoKey (formatUndo (undo .left) (undo .right) (wrapsBy mode)) (itemsIn count (now (area .entry))))) × (r .length ≡ length (areaBytes (setItem undoKey (formatUndo (undo .left) (undo .right) (wrapsBy mode)) (itemsIn count (now (area .entry)))))) × (now (out .exit) ≡ over (areaBytes (setItem undoKey (formatUndo (undo .left) (undo .right) (wrapsBy mode)) (itemsIn count (now (area .entry))))) (now (out .entry))) ⌝ }
+{
+    let text = values::format_undo_value(undo.left, undo.right, wraps(mode));
+    let n = text.len;
+    let value = text.bytes;
+    put_set(area, count, &keys::TAG_MP3GAIN_UNDO, &value[0..n], out)
+}
+
+// Writes a well-formed area with this range to the front of `out`.
+fn put_range(area: &[u8], count: usize, range: Range, out: &mut [u8]) -> Measure
+    requires { ⌜ (isSome (parse count (now area)) ≡ true) × (length (areaBytes (setItem minmaxKey (formatRange range) (itemsIn count (now area)))) ≤ length (now out)) ⌝ }
+    ensures { λ r. ⌜ (r .count ≡ length (setItem minmaxKey (formatRange range) (itemsIn count (now (area .entry))))) × (r .length ≡ length (areaBytes (setItem minmaxKey (formatRange range) (itemsIn count (now (area .entry)))))) × (now (out .exit) ≡ over (areaBytes (setItem minmaxKey (formatRange range) (itemsIn count (now (area .entry))))) (now (out .entry))) ⌝ }
+{
+    let text = values::format_minmax(range.least, range.greatest);
+    let n = text.len;
+    let value = text.bytes;
+    put_set(area, count, &keys::TAG_MP3GAIN_MINMAX, &value[0..n], out)
+}
+
+// The places of the two peak keys in the table of eight.
+const TRACK_PEAK: usize = 4;
+
+const ALBUM_PEAK: usize = 6;
+
+// Whether an item with this key holds a peak.
+fn is_peak(key: &[u8]) -> bool
+    ensures { λ r. ⌜ r ≡ isPeakKey (now (key .entry)) ⌝ }
+{
+    let Which::Key(i) = keys::which_key(key) else {
+        return false;
+    };
+    if i == TRACK_PEAK {
+        return true;
+    }
+    i == ALBUM_PEAK
+}
+
+// How many items of a well-formed area hold a peak.
+pub fn count_peaks(area: &[u8], count: usize) -> usize
+    requires { ⌜ isSome (parse count (now area)) ≡ true ⌝ }
+    ensures { λ r. ⌜ r ≡ countOf isPeakKey (itemsIn count (now (area .entry))) ⌝ }
+{
+    let mut at = 0;
+    let mut left = count;
+    let mut n = 0;
+    while 0 < left {
+        let s = items::step(area, at);
+        let Stepped::Item {
+            flags: _,
+            key_start,
+            key_end,
+            value_start: _,
+            value_end,
+        } = s
+        else {
+            return n;
+        };
+        left -= 1;
+        if is_peak(&area[key_start..key_end]) {
+            n += 1;
+        }
+        at = value_end;
+    }
+    n
+}
