@@ -7,8 +7,8 @@ use borrow.Author.Tests.{not-true, not-false, eq-eqb, ne-eqb}
 use lib.Dec.{eqb}
 use Rattle.values.specs.Stored.{shiftStored}
 use Rattle.c_values.specs.ValuesFace.{textFace}
-use Rattle.decimal.proofs.Texts.{text-within}
-use Rattle.c_values.proofs.Texts.{wrote, Moved, moved-is, stays-is}
+use Rattle.decimal.proofs.Texts.{text-within, Moved, moved-is, stays-is}
+use Rattle.c_values.proofs.Texts.{wrote}
 use Rattle.c_values.proofs.zib_shift_stored_value.Statement.{statement}
 use Rattle.c_values.proofs.zib_shift_stored_value.Tie as tie
 

@@ -1,0 +1,199 @@
+-- Laws of the shift of stored values, and the loops over the items of an area that it leaves.
+use Prim.Native.Nat.{ℕ, _+_, _-_, _*_, _≤_, _<_}
+use native.Mathlib.Nat.{zero-add, add-zero}
+use native.Mathlib.Omega.{arith}
+use mathlib.Core.Path.{_≡_, refl, sym, ap, _∙_}
+use mathlib.Core.Bool.{Bool, true, false}
+use mathlib.Core.Option.{Option, none, some, Option·getD}
+use mathlib.Core.List.{List, [], _∷_, _++_, map, append-assoc, append-nil}
+use lib.ListN.{length, take, drop, length-append, take-append-drop}
+use lib.Seq.{length-take-le}
+use lib.IntN.{ℤ}
+use Rattle.lists.specs.Bytes.{Small}
+use Rattle.lists.specs.Choice.{found, isSome}
+use Rattle.lists.specs.Le.{u32le}
+use Rattle.lists.specs.Write.{over, part}
+use Rattle.lists.proofs.Places.{part-is, length-part}
+use Rattle.lists.proofs.Wrote.{Wrote, start, from-start}
+use Rattle.frame.specs.declared.GainMode.{GainMode}
+use Rattle.frame.specs.declared.GainMode.the-variants.{Saturating, Wrapping}
+use Rattle.values.specs.Stored.{shiftStored}
+use Rattle.values.proofs.Texts.{stored-short}
+use Rattle.items.specs.Items.{Item, itemBytes, areaBytes, sizeOf, parse, itemsIn}
+use Rattle.items.proofs.Area.{length-area, count-items}
+use Rattle.items.proofs.Loops.{Left, begin, Turn, items-none}
+use Rattle.calls.specs.Calls.{staying, shiftItem, shiftStoredGain}
+use Rattle.area_shift.specs.Shift.{goes, shiftedBytes}
+
+-- ---- sizes
+
+module _ (m : GainMode) (steps : ℤ) where
+  -- the first item goes, or stays and is shifted
+  pub shift-goes : (t : Item) (ts : List Item) → goes m steps (t .key) (t .value) ≡ true → shiftStoredGain m steps (t ∷ ts) ≡ shiftStoredGain m steps ts
+  unfolding shiftStoredGain staying
+  shift-goes t ts e = by m e
+    where
+      by : (m : GainMode) → goes m steps (t .key) (t .value) ≡ true → map (shiftItem steps) (staying m steps (t ∷ ts)) ≡ map (shiftItem steps) (staying m steps ts)
+      by Saturating e = cc
+      by Wrapping e = rw e
+
+  pub shift-stays : (t : Item) (ts : List Item) → goes m steps (t .key) (t .value) ≡ false → shiftStoredGain m steps (t ∷ ts) ≡ shiftItem steps t ∷ shiftStoredGain m steps ts
+  unfolding shiftStoredGain staying
+  shift-stays t ts e = by m e
+    where
+      by : (m : GainMode) → goes m steps (t .key) (t .value) ≡ false → map (shiftItem steps) (staying m steps (t ∷ ts)) ≡ shiftItem steps t ∷ map (shiftItem steps) (staying m steps ts)
+      by Saturating e = refl
+      by Wrapping e = rw e
+
+  pub shift-none : shiftStoredGain m steps [] ≡ []
+  unfolding shiftStoredGain staying
+  shift-none = by m
+    where
+      by : (m : GainMode) → map (shiftItem steps) (staying m steps []) ≡ []
+      by Saturating = refl
+      by Wrapping = refl
+
+  pub shift-count : (ts : List Item) → length (shiftStoredGain m steps ts) ≤ length ts
+  shift-count [] = rw shift-none (omega arith)
+  shift-count (t ∷ ts) = go (goes m steps (t .key) (t .value)) refl (shift-count ts)
+    where
+      go : (a : Bool) → goes m steps (t .key) (t .value) ≡ a → length (shiftStoredGain m steps ts) ≤ length ts → length (shiftStoredGain m steps (t ∷ ts)) ≤ length (t ∷ ts)
+      go true e ih = rw (shift-goes t ts e) (omega arith)
+      go false e ih = rw (shift-stays t ts e) (omega arith)
+
+  -- a new text has at most 32 bytes
+  shift-size : (t : Item) → sizeOf (shiftItem steps t) ≤ sizeOf t + 32
+  unfolding shiftItem
+  shift-size t = go (shiftStored (t .key) (t .value) steps) refl
+    where
+      go : (o : Option (List ℕ)) → shiftStored (t .key) (t .value) steps ≡ o → 9 + length (t .key) + length (Option·getD o (t .value)) ≤ sizeOf t + 32
+      go none e = omega arith
+      go (some w) e = omega (arith, stored-short (t .key) (t .value) steps w e .size)
+
+  pub shift-bytes : (ts : List Item) → length (areaBytes (shiftStoredGain m steps ts)) ≤ length (areaBytes ts) + 32 * length ts
+  shift-bytes [] = rw shift-none (omega arith)
+  shift-bytes (t ∷ ts) = go (goes m steps (t .key) (t .value)) refl (shift-bytes ts)
+    where
+      go : (a : Bool) → goes m steps (t .key) (t .value) ≡ a → length (areaBytes (shiftStoredGain m steps ts)) ≤ length (areaBytes ts) + 32 * length ts
+          → length (areaBytes (shiftStoredGain m steps (t ∷ ts))) ≤ length (areaBytes (t ∷ ts)) + 32 * length (t ∷ ts)
+      go true e ih = rw (shift-goes t ts e) (omega (arith, length-area t ts))
+      go false e ih = rw (shift-stays t ts e) (omega (arith, length-area t ts, length-area (shiftItem steps t) (shiftStoredGain m steps ts), shift-size t))
+
+-- ---- the bytes of one item, by whether it has a new text
+
+module _ (steps : ℤ) (s : List ℕ) (a k e : ℕ) where
+  pub bytes-found : shiftStored (part (a + 8) k s) (part (k + 1) e s) steps ≡ none → shiftedBytes steps s a k e ≡ part a e s
+  unfolding shiftedBytes
+  bytes-found q = rw q
+
+  pub bytes-moved : (w : List ℕ) → shiftStored (part (a + 8) k s) (part (k + 1) e s) steps ≡ some w
+      → shiftedBytes steps s a k e ≡ (u32le (length w) ++ part (a + 4) (k + 1) s) ++ w
+  unfolding shiftedBytes
+  bytes-moved w q = rw q
+
+  -- how long it then is
+  pub moved-size : (w : List ℕ) → shiftStored (part (a + 8) k s) (part (k + 1) e s) steps ≡ some w → a + 8 ≤ k → k < e → e ≤ length s
+      → length (shiftedBytes steps s a k e) ≡ 4 + (k + 1 - (a + 4)) + length w
+  moved-size w q h i j = rw (bytes-moved w q) (simp length-append (omega (arith, length-part (a + 4) (k + 1) s (omega arith))))
+
+-- ---- the bytes of a turn's item
+
+module _ (steps : ℤ) {s : List ℕ} {at left a b c d : ℕ} (t : Turn s at left a b c d) (small : Small s) where
+  -- flags, key and its zero byte
+  middle : part (at + 4) (b + 1) s ≡ u32le 0 ++ (t .item .key ++ (0 ∷ []))
+  middle =
+      let v = t .item .value in
+      let f = take at s in
+      let r = drop (d - at) (drop at s) in
+      let m = u32le 0 ++ (t .item .key ++ (0 ∷ [])) in
+      let l : length f ≡ at = length-take-le at s (omega (arith, t .end, t .rest .within)) in
+      let h : s ≡ (f ++ u32le (length v)) ++ (m ++ (v ++ r)) =
+      sym (take-append-drop at s) ∙ ap (λ (x : List ℕ). f ++ x) (sym (take-append-drop (d - at) (drop at s)) ∙ ap (λ (x : List ℕ). x ++ r) (t .bytes small)) ∙ unfold itemBytes in simp append-assoc in
+      ap (part (at + 4) (b + 1)) h
+      ∙ part-is (f ++ u32le (length v)) m (v ++ r) (at + 4) (b + 1) (simp length-append (omega arith)) (simp length-append (omega (arith, t .key-end)))
+
+  pub item-shifted : shiftedBytes steps s at b d ≡ itemBytes (shiftItem steps (t .item))
+  unfolding shiftItem itemBytes
+  item-shifted = go (shiftStored (t .item .key) (t .item .value) steps) refl
+    where
+      stored : (o : Option (List ℕ)) → shiftStored (t .item .key) (t .item .value) steps ≡ o → shiftStored (part (at + 8) b s) (part (b + 1) d s) steps ≡ o
+      stored o e = rw (← t .key-start, ← t .value-start, t .key, t .value) e
+
+      go : (o : Option (List ℕ)) → shiftStored (t .item .key) (t .item .value) steps ≡ o → shiftedBytes steps s at b d ≡ itemBytes (shiftItem steps (t .item))
+      go none e = bytes-found steps s at b d (stored none e) ∙ t .bytes small ∙ rw e
+      go (some w) e = bytes-moved steps s at b d w (stored (some w) e) ∙ rw (middle, e) (simp append-assoc)
+
+-- ---- the loop that writes
+
+module _ (m : GainMode) (steps : ℤ) where
+  -- what the shift leaves of items
+  abbrev left-of : List Item → List Item
+  left-of ts = shiftStoredGain m steps ts
+
+  -- `done` are the bytes of the n items so far, and what is left of the rest is to come
+  pub record Writing (s : List ℕ) (count : ℕ) (out₀ out : List ℕ) (at left n o : ℕ) : Type 0 where
+    pub todo : Left s at left
+    pub done : List ℕ
+    pub same : areaBytes (left-of (itemsIn count s)) ≡ done ++ areaBytes (left-of (itemsIn left (drop at s)))
+    pub counted : length (left-of (itemsIn count s)) ≡ n + length (left-of (itemsIn left (drop at s)))
+    pub wrote : Wrote out₀ 0 done o out
+    pub long : length out ≡ length out₀
+
+  pub write-begin : (s : List ℕ) (count : ℕ) (out : List ℕ) → isSome (parse count s) ≡ true → Writing s count out out 0 count 0 0
+  write-begin s count out e =
+      record { todo = begin s count e; done = []; same = refl; counted = sym (zero-add _); wrote = start out 0 (omega arith); long = refl }
+
+  module _ {s : List ℕ} {count : ℕ} {out₀ out : List ℕ} {at left n o a b c d : ℕ} (x : Writing s count out₀ out at left n o) (t : Turn s at left a b c d) {y : Bool}
+      (e : y ≡ goes m steps (part a b s) (part c d s)) where
+    test : (z : Bool) → y ≡ z → goes m steps (t .item .key) (t .item .value) ≡ z
+    test z f = rw (← t .key, ← t .value) (sym e ∙ f)
+
+    pub write-drop : y ≡ true → Writing s count out₀ out d (left - 1) n o
+    write-drop f =
+        let q : left-of (itemsIn left (drop at s)) ≡ left-of (itemsIn (left - 1) (drop d s)) = ap left-of (t .list) ∙ shift-goes m steps (t .item) (itemsIn (left - 1) (drop d s)) (test true f) in
+        record {
+          todo = t .rest;
+          done = x .done;
+          same = x .same ∙ ap (λ (ts : List Item). x .done ++ areaBytes ts) q;
+          counted = x .counted ∙ ap (λ (ts : List Item). n + length ts) q;
+          wrote = x .wrote;
+          long = x .long;
+        }
+
+    -- the item stays
+    module _ (f : y ≡ false) where
+      kept : left-of (itemsIn left (drop at s)) ≡ shiftItem steps (t .item) ∷ left-of (itemsIn (left - 1) (drop d s))
+      kept = ap left-of (t .list) ∙ shift-stays m steps (t .item) (itemsIn (left - 1) (drop d s)) (test false f)
+
+      kept-same : areaBytes (left-of (itemsIn count s)) ≡ (x .done ++ itemBytes (shiftItem steps (t .item))) ++ areaBytes (left-of (itemsIn (left - 1) (drop d s)))
+      unfolding areaBytes
+      kept-same =
+          x .same
+          ∙ ap (λ (ts : List Item). x .done ++ areaBytes ts) kept
+          ∙ sym (append-assoc (x .done) (itemBytes (shiftItem steps (t .item))) (areaBytes (left-of (itemsIn (left - 1) (drop d s)))))
+
+      kept-count : length (left-of (itemsIn count s)) ≡ n + 1 + length (left-of (itemsIn (left - 1) (drop d s)))
+      kept-count = x .counted ∙ ap (λ (ts : List Item). n + length ts) kept ∙ omega arith
+
+      -- one more can be counted
+      pub write-few : isSome (parse count s) ≡ true → n + 1 ≤ count
+      write-few g = omega (arith, kept-count, shift-count m steps (itemsIn count s), count-items count s g)
+
+      -- there is room for it
+      pub write-room : Small s → length (areaBytes (left-of (itemsIn count s))) ≤ length out₀ → o + length (shiftedBytes steps s at b d) ≤ length out
+      write-room sm r =
+          let k = simp length-append at (ap length kept-same) in
+          omega (arith, k, r, ap length (item-shifted steps t sm), x .wrote .ends, x .long)
+
+      pub write-keep : Small s → (o′ : ℕ) (out′ : List ℕ) → length out′ ≡ length out → Wrote out₀ 0 (x .done ++ shiftedBytes steps s at b d) o′ out′
+          → Writing s count out₀ out′ d (left - 1) (n + 1) o′
+      write-keep sm o′ out′ l w =
+          record { todo = t .rest; done = x .done ++ itemBytes (shiftItem steps (t .item)); same = kept-same; counted = kept-count; wrote = rw (item-shifted steps t sm) at w; long = l ∙ x .long }
+
+  pub write-end : {s : List ℕ} {count : ℕ} {out₀ out : List ℕ} {at left n o : ℕ} (x : Writing s count out₀ out at left n o) → left ≡ 0
+      → (n ≡ length (left-of (itemsIn count s))) × (o ≡ length (areaBytes (left-of (itemsIn count s)))) × (out ≡ over (areaBytes (left-of (itemsIn count s))) out₀)
+  unfolding areaBytes
+  write-end {s} {count} {out₀} {out} {at} {left} {n} {o} x z =
+      let e : left-of (itemsIn left (drop at s)) ≡ [] = ap (λ (i : ℕ). left-of (itemsIn i (drop at s))) z ∙ ap left-of (items-none (drop at s)) ∙ shift-none m steps in
+      let k : areaBytes (left-of (itemsIn count s)) ≡ x .done = x .same ∙ ap (λ (ts : List Item). x .done ++ areaBytes ts) e ∙ append-nil (x .done) in
+      (sym (x .counted ∙ rw e (add-zero n)), x .wrote .ends ∙ rw (zero-add, k), from-start (x .wrote) ∙ rw k)

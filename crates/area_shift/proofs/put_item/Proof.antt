@@ -1,0 +1,121 @@
+use mathlib.Core.Path.{_≡_, ap}
+use Prim.Native.Nat.{_+_, _-_, _≤_}
+use native.Mathlib.Omega.{arith}
+use borrow.Author.Needs.{needs}
+use borrow.Author.Tests.{not-true, not-false}
+use lib.ListN.{length}
+use Rattle.lists.specs.Le.{u32le}
+use Rattle.lists.specs.Write.{part}
+use Rattle.lists.proofs.Places.{length-part}
+use Rattle.lists.proofs.Wrote.{start, next, done}
+use Rattle.decimal.specs.declared.Text.{Text}
+use Rattle.decimal.proofs.Texts.{Moved, moved-is, stays-is, text-within, lent-part}
+use Rattle.values.specs.Stored.{shiftStored}
+use Rattle.values.proofs.Texts.{stored-short}
+use Rattle.area_shift.specs.Shift.{shiftedBytes}
+use Rattle.area_shift.proofs.put_item.Statement.{statement}
+use Rattle.area_shift.proofs.put_item.Tie as tie
+use Rattle.area_shift.proofs.Shifting.{bytes-found, bytes-moved, moved-size}
+
+-- it stays as found
+stays : (c : tie.After-put-part-arg) → let g = c .before .before .before .before .before .before .before .before .args in
+    shiftedBytes (g .steps .0) (g .area .now) (g .at) (g .stop) (g .end) ≡ part (g .at) (g .end) (g .area .now)
+stays c =
+    let v = c .before .before .before in
+    let g = v .before .before .before .before .before .args in
+    let x = v .shift-stored-value .result in
+    bytes-found (g .steps .0) (g .area .now) (g .at) (g .stop) (g .end) (stays-is _ x (v .shift-stored-value .ensures) (not-true (x .moved) (c .before .if1 .taken)))
+
+-- it has a new text
+moved : (c : tie.After-put-u32-le-arg) → let v = c .before .before .before .before .before in let g = v .before .before .before .before .before .args in
+    Moved (shiftStored (part (g .at + 8) (g .stop) (g .area .now)) (part (g .stop + 1) (g .end) (g .area .now)) (g .steps .0)) (v .shift-stored-value .result)
+moved c =
+    let v = c .before .before .before .before .before in
+    let x = v .shift-stored-value .result in
+    moved-is _ x (v .shift-stored-value .ensures) (not-false (x .moved) (c .before .before .before .if1 .left))
+
+-- how long it is, and its text
+sized : (c : tie.After-put-u32-le-arg) → let v = c .before .before .before .before .before in let g = v .before .before .before .before .before .args in
+    (length (shiftedBytes (g .steps .0) (g .area .now) (g .at) (g .stop) (g .end)) ≡ 4 + (g .stop + 1 - (g .at + 4)) + v .shift-stored-value .result .text .len)
+    × (v .shift-stored-value .result .text .len ≤ 21) × (v .shift-stored-value .result .text .len ≤ length (v .shift-stored-value .result .text .bytes))
+sized c =
+    let v = c .before .before .before .before .before in
+    let b = v .before .before .before .before .before in
+    let g = b .args in
+    let m = moved c in
+    let n : v .shift-stored-value .result .text .len ≡ length (m .w) = ap (λ (t : Text). t .len) (m .text) in
+    let l = moved-size (g .steps .0) (g .area .now) (g .at) (g .stop) (g .end) (m .w) (m .is) (b .pre .0) (b .pre .1) (b .pre .2) in
+    (omega (arith, l), omega (arith, stored-short _ _ (g .steps .0) (m .w) (m .is) .size), text-within _ (m .w) (m .text))
+
+put-part-requires : tie.Need-put-part-requires
+put-part-requires c κs =
+    let b = c .before .before .before .before .before .before .before .before in
+    let g = b .args in
+    (omega arith, omega arith, omega (arith, b .pre, ap length (stays c), length-part (g .at) (g .end) (g .area .now) (b .pre .2)))
+
+returns : tie.Need-returns
+returns c =
+    let p = c .before .before in
+    rw (stays (p .before)) (p .put-part .ensures .0, p .put-part .ensures .1)
+
+put-u32-le-requires : tie.Need-put-u32-le-requires
+put-u32-le-requires c κs = omega (arith, sized c)
+
+put-part-requires-2 : tie.Need-put-part-requires-2
+put-part-requires-2 c κs =
+    let p1 = c .before .before .before in
+    (omega arith, omega arith, omega (arith, sized (p1 .before), p1 .put-u32-le .ensures .0, p1 .put-u32-le .kept .0))
+
+put-part-requires-3 : tie.Need-put-part-requires-3
+put-part-requires-3 c κs =
+    let p2 = c .before .before .before .before in
+    let p1 = p2 .before .before .before .before in
+    let k = p1 .before in
+    let z = sized k in
+    (omega arith, z .2, omega (arith, z, k .before .before .before .before .before .before .before .before .before .before .pre .3, p1 .put-u32-le .ensures .0, p1 .put-u32-le .kept .0, p2 .put-part2 .ensures .2, p2 .put-part2 .kept .0))
+
+returns-2 : tie.Need-returns-2
+returns-2 c =
+    let p3 = c .before .before in
+    let p2 = p3 .before .before .before .before .before in
+    let p1 = p2 .before .before .before .before in
+    let k = p1 .before in
+    let v = k .before .before .before .before .before in
+    let b = v .before .before .before .before .before in
+    let g = b .args in
+    let s = g .area .now in
+    let m = moved k in
+    let t = v .shift-stored-value .result .text in
+    let n : t .len ≡ length (m .w) = ap (λ (t : Text). t .len) (m .text) in
+    let e2 = p2 .put-part2 .ensures in
+    let e3 = p3 .put-part3 .ensures in
+    let l = lent-part t (m .w) (m .text) in
+    let w1 = next (start (g .out .now) (g .o) (omega (arith, b .pre))) (u32le (length (m .w))) (rw n at (p1 .put-u32-le .ensures)) in
+    let w2 = next w1 (part (g .at + 4) (g .stop + 1) s) (e2 .0, e2 .1) in
+    let w3 = next w2 (m .w) (rw l at (e3 .0), rw l at (e3 .1)) in
+    rw (bytes-moved (g .steps .0) s (g .at) (g .stop) (g .end) (m .w) (m .is)) (done w3)
+
+pub put-item-spec : {M : Type 1} → statement M
+put-item-spec =
+    tie.close
+    (tie.spec
+    (λ c. search needs)
+    (λ c. search needs)
+    (λ c. search needs)
+    (λ c. search needs)
+    (λ c. search needs)
+    (λ c. search needs)
+    (λ c. search needs)
+    (λ c. search needs)
+    (λ c κs. search needs)
+    put-part-requires
+    (λ c. search needs)
+    returns
+    (λ c. omega (arith, sized c))
+    put-u32-le-requires
+    (λ c. search needs)
+    put-part-requires-2
+    (λ c. search needs)
+    put-part-requires-3
+    (λ c. search needs)
+    returns-2)

@@ -1,0 +1,99 @@
+// The stored values of a lent item area after so many steps: the new area is written to the front of a lent output.
+ghost use mathlib.Core.Path.{_≡_};
+ghost use mathlib.Core.Bool.{true};
+ghost use Prim.Native.Nat.{_≤_, _<_, _+_};
+ghost use lib.ListN.{length};
+ghost use Rattle.lists.specs.Choice.{isSome};
+ghost use Rattle.lists.specs.Write.{over, splice};
+ghost use Rattle.items.specs.Items.{areaBytes, parse, itemsIn};
+ghost use Rattle.calls.specs.Calls.{shiftStoredGain};
+ghost use Rattle.area_shift.specs.Shift as S;
+use area_edit::Measure;
+use frame::GainMode;
+use frame::GainSteps;
+use items::Stepped;
+
+// Whether an item goes before the shift: under W a range of which a number leaves 0..255.
+fn goes(key: &[u8], value: &[u8], steps: GainSteps, mode: GainMode) -> bool
+    ensures { λ r. ⌜ r ≡ S.goes mode (steps .0) (now (key .entry)) (now (value .entry)) ⌝ }
+{
+    match mode {
+        GainMode::Saturating => false,
+        GainMode::Wrapping => values::range_wraps_out(key, value, steps),
+    }
+}
+
+// Writes the item from `at` to `end`, whose key ends at `stop`, with its new text or as found into `out` from `o`.
+fn put_item(
+    out: &mut [u8],
+    o: usize,
+    area: &[u8],
+    at: usize,
+    stop: usize,
+    end: usize,
+    steps: GainSteps,
+) -> usize
+    requires { ⌜ (at + 8 ≤ stop) × (stop < end) × (end ≤ length (now area)) × (o + length (S.shiftedBytes (steps .0) (now area) at stop end) ≤ length (now out)) ⌝ }
+    ensures { λ r. ⌜ (r ≡ o + length (S.shiftedBytes (steps .0) (now (area .entry)) at stop end)) × (now (out .exit) ≡ splice (now (out .entry)) o (S.shiftedBytes (steps .0) (now (area .entry)) at stop end)) ⌝ }
+{
+    let key = at + 8;
+    let value = stop + 1;
+    let s = values::shift_stored_value(&area[key..stop], &area[value..end], steps);
+    if !s.moved {
+        return lists::put_part(out, o, area, at, end);
+    }
+    let text = s.text;
+    let n = text.len;
+    let bytes = text.bytes;
+    let a = lists::put_u32_le(out, o, n as u32);
+    let b = lists::put_part(out, a, area, at + 4, value);
+    lists::put_part(out, b, &bytes, 0, n)
+}
+
+// Writes what the shift leaves of a well-formed area to the front of `out`.
+pub fn write_shifted(
+    area: &[u8],
+    count: usize,
+    steps: GainSteps,
+    mode: GainMode,
+    out: &mut [u8],
+) -> Measure
+    requires { ⌜ (isSome (parse count (now area)) ≡ true) × (length (areaBytes (shiftStoredGain mode (steps .0) (itemsIn count (now area)))) ≤ length (now out)) ⌝ }
+    ensures { λ r. ⌜ (r .count ≡ length (shiftStoredGain mode (steps .0) (itemsIn count (now (area .entry))))) × (r .length ≡ length (areaBytes (shiftStoredGain mode (steps .0) (itemsIn count (now (area .entry)))))) × (now (out .exit) ≡ over (areaBytes (shiftStoredGain mode (steps .0) (itemsIn count (now (area .entry))))) (now (out .entry))) ⌝ }
+{
+    let mut at = 0;
+    let mut left = count;
+    let mut n = 0;
+    let mut o = 0;
+    while 0 < left {
+        let s = items::step(area, at);
+        let Stepped::Item {
+            flags: _,
+            key_start,
+            key_end,
+            value_start,
+            value_end,
+        } = s
+        else {
+            return Measure {
+                count: n,
+                length: o,
+            };
+        };
+        left -= 1;
+        if !goes(
+            &area[key_start..key_end],
+            &area[value_start..value_end],
+            steps,
+            mode,
+        ) {
+            o = put_item(out, o, area, at, key_end, value_end, steps);
+            n += 1;
+        }
+        at = value_end;
+    }
+    Measure {
+        count: n,
+        length: o,
+    }
+}
