@@ -4,17 +4,13 @@ use native.Mathlib.Omega.{arith}
 use mathlib.Core.Path.{_≡_, sym, ap, _∙_}
 use mathlib.Core.List.{List}
 use lib.ListN.{length, take}
-use Rattle.lists.specs.Write.{over}
 use Rattle.replies.specs.Limits.{fileLimit}
 use Rattle.decimal.specs.Writing.{textOf}
 use Rattle.decimal.specs.declared.Text.{Text}
 use Rattle.decimal.proofs.Texts.{text-part}
 use Rattle.items.specs.Items.{Item, areaBytes, setItem}
 use Rattle.area_edit.specs.declared.Measure.{Measure}
-
--- what an edit answers and leaves in its output, where it makes these items
-abbrev pub Wrote : List Item → List ℕ → Measure → List ℕ → Type 0
-Wrote ts out r after = (r .count ≡ length ts) × (r .length ≡ length (areaBytes ts)) × (after ≡ over (areaBytes ts) out)
+use Rattle.level_items.specs.Items.{Wrote}
 
 module _ (t : Text) (w : List ℕ) (e : t ≡ textOf w) (key : List ℕ) (ts : List Item) where
   lent : take (t .len - 0) (t .bytes) ≡ w

@@ -4,15 +4,18 @@ ghost use mathlib.Core.Bool.{true};
 ghost use Prim.Native.Nat.{_≤_};
 ghost use lib.ListN.{length};
 ghost use Rattle.lists.specs.Choice.{isSome};
-ghost use Rattle.lists.specs.Write.{over};
 ghost use Rattle.replies.specs.Limits.{fileLimit};
 ghost use Rattle.keys.specs.Keys.{undoKey, minmaxKey};
 ghost use Rattle.values.specs.Undo.{formatUndo};
 ghost use Rattle.values.specs.Range.{formatRange};
 ghost use Rattle.items.specs.Items.{areaBytes, parse, itemsIn, setItem};
-ghost use Rattle.calls.specs.Calls.{wraps as wrapsBy, countOf, isPeakKey};
+ghost use Rattle.calls.specs.Calls.{wraps as wrapsBy, shiftedItems, countOf, isPeakKey};
+ghost use Rattle.level_items.specs.Items.{Wrote, undoneItems, rangedItems};
+use area_edit::Drop;
 use area_edit::Measure;
+use area_edit::Measured;
 use frame::GainMode;
+use frame::GainSteps;
 use items::Stepped;
 use keys::Which;
 use values::Range;
@@ -31,7 +34,7 @@ fn wraps(mode: GainMode) -> bool
 // Writes a well-formed area with this item set to the front of `out`.
 fn put_set(area: &[u8], count: usize, key: &[u8], value: &[u8], out: &mut [u8]) -> Measure
     requires { ⌜ (isSome (parse count (now area)) ≡ true) × (length (now value) ≤ fileLimit) × (length (areaBytes (setItem (now key) (now value) (itemsIn count (now area)))) ≤ length (now out)) ⌝ }
-    ensures { λ r. ⌜ (r .count ≡ length (setItem (now (key .entry)) (now (value .entry)) (itemsIn count (now (area .entry))))) × (r .length ≡ length (areaBytes (setItem (now (key .entry)) (now (value .entry)) (itemsIn count (now (area .entry)))))) × (now (out .exit) ≡ over (areaBytes (setItem (now (key .entry)) (now (value .entry)) (itemsIn count (now (area .entry))))) (now (out .entry))) ⌝ }
+    ensures { λ r. ⌜ Wrote (setItem (now (key .entry)) (now (value .entry)) (itemsIn count (now (area .entry)))) (now (out .entry)) r (now (out .exit)) ⌝ }
 {
     let p = items::locate(area, count, key);
     area_edit::write_set(area, count, key, value, p, out)
@@ -40,7 +43,7 @@ fn put_set(area: &[u8], count: usize, key: &[u8], value: &[u8], out: &mut [u8]) 
 // Writes a well-formed area with the undo item of these numbers to the front of `out`.
 fn put_undo(area: &[u8], count: usize, undo: UndoValues, mode: GainMode, out: &mut [u8]) -> Measure
     requires { ⌜ (isSome (parse count (now area)) ≡ true) × (length (areaBytes (setItem undoKey (formatUndo (undo .left) (undo .right) (wrapsBy mode)) (itemsIn count (now area)))) ≤ length (now out)) ⌝ }
-    ensures { λ r. ⌜ (r .count ≡ length (setItem undoKey (formatUndo (undo .left) (undo .right) (wrapsBy mode)) (itemsIn count (now (area .entry))))) × (r .length ≡ length (areaBytes (setItem undoKey (formatUndo (undo .left) (undo .right) (wrapsBy mode)) (itemsIn count (now (area .entry)))))) × (now (out .exit) ≡ over (areaBytes (setItem undoKey (formatUndo (undo .left) (undo .right) (wrapsBy mode)) (itemsIn count (now (area .entry))))) (now (out .entry))) ⌝ }
+    ensures { λ r. ⌜ Wrote (setItem undoKey (formatUndo (undo .left) (undo .right) (wrapsBy mode)) (itemsIn count (now (area .entry)))) (now (out .entry)) r (now (out .exit)) ⌝ }
 {
     let text = values::format_undo_value(undo.left, undo.right, wraps(mode));
     let n = text.len;
@@ -51,12 +54,82 @@ fn put_undo(area: &[u8], count: usize, undo: UndoValues, mode: GainMode, out: &m
 // Writes a well-formed area with this range to the front of `out`.
 fn put_range(area: &[u8], count: usize, range: Range, out: &mut [u8]) -> Measure
     requires { ⌜ (isSome (parse count (now area)) ≡ true) × (length (areaBytes (setItem minmaxKey (formatRange range) (itemsIn count (now area)))) ≤ length (now out)) ⌝ }
-    ensures { λ r. ⌜ (r .count ≡ length (setItem minmaxKey (formatRange range) (itemsIn count (now (area .entry))))) × (r .length ≡ length (areaBytes (setItem minmaxKey (formatRange range) (itemsIn count (now (area .entry)))))) × (now (out .exit) ≡ over (areaBytes (setItem minmaxKey (formatRange range) (itemsIn count (now (area .entry))))) (now (out .entry))) ⌝ }
+    ensures { λ r. ⌜ Wrote (setItem minmaxKey (formatRange range) (itemsIn count (now (area .entry)))) (now (out .entry)) r (now (out .exit)) ⌝ }
 {
     let text = values::format_minmax(range.least, range.greatest);
     let n = text.len;
     let value = text.bytes;
     put_set(area, count, &keys::TAG_MP3GAIN_MINMAX, &value[0..n], out)
+}
+
+// Writes what level leaves of the stored values of a well-formed area to the front of `out`: moved where the steps are equal, else without
+// UNDONE_KEYS.
+fn put_moved(
+    area: &[u8],
+    count: usize,
+    left: GainSteps,
+    right: GainSteps,
+    mode: GainMode,
+    out: &mut [u8],
+) -> Measure
+    requires { ⌜ (isSome (parse count (now area)) ≡ true) × (length (areaBytes (shiftedItems (record { left = left .0; right = right .0; mode = mode }) (itemsIn count (now area)))) ≤ length (now out)) ⌝ }
+    ensures { λ r. ⌜ Wrote (shiftedItems (record { left = left .0; right = right .0; mode = mode }) (itemsIn count (now (area .entry)))) (now (out .entry)) r (now (out .exit)) ⌝ }
+{
+    if left.0 == right.0 {
+        return area_shift::write_shifted(area, count, left, mode, out);
+    }
+    let m = area_edit::measure_without(area, count, Drop::Undone, b"");
+    let Measured::Size {
+        count: n,
+        length: _,
+    } = m
+    else {
+        return Measure { count, length: 0 };
+    };
+    let end = area_edit::write_without(area, count, Drop::Undone, b"", out);
+    Measure {
+        count: n,
+        length: end,
+    }
+}
+
+// Then sets the undo item.
+fn put_undone(
+    area: &[u8],
+    count: usize,
+    left: GainSteps,
+    right: GainSteps,
+    mode: GainMode,
+    undo: UndoValues,
+    out: &mut [u8],
+) -> Measure
+    requires { ⌜ (isSome (parse count (now area)) ≡ true) × (count ≤ 256) × (length (now area) ≤ 32768) × (66048 ≤ length (now out)) ⌝ }
+    ensures { λ r. ⌜ Wrote (undoneItems (record { left = left .0; right = right .0; mode = mode }) undo (itemsIn count (now (area .entry)))) (now (out .entry)) r (now (out .exit)) ⌝ }
+{
+    let mut moved = edit::scratch();
+    let m = put_moved(area, count, left, right, mode, &mut moved);
+    let n = m.length;
+    put_undo(&moved[0..n], m.count, undo, mode, out)
+}
+
+// Writes the items that level leaves of those of a file that is fit for editing to the front of `out`.
+pub fn write_items(
+    area: &[u8],
+    count: usize,
+    left: GainSteps,
+    right: GainSteps,
+    mode: GainMode,
+    undo: UndoValues,
+    range: Range,
+    out: &mut [u8],
+) -> Measure
+    requires { ⌜ (isSome (parse count (now area)) ≡ true) × (count ≤ 256) × (length (now area) ≤ 32768) × (66048 ≤ length (now out)) ⌝ }
+    ensures { λ r. ⌜ Wrote (rangedItems (record { left = left .0; right = right .0; mode = mode }) undo range (itemsIn count (now (area .entry)))) (now (out .entry)) r (now (out .exit)) ⌝ }
+{
+    let mut undone = edit::scratch();
+    let m = put_undone(area, count, left, right, mode, undo, &mut undone);
+    let n = m.length;
+    put_range(&undone[0..n], m.count, range, out)
 }
 
 // The places of the two peak keys in the table of eight.

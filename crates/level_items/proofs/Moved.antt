@@ -1,0 +1,92 @@
+-- Laws of the items that level leaves: how they begin, how long they are, and that they can be read back.
+use Prim.Native.Nat.{ℕ, _+_, _*_, _≤_, _<_}
+use native.Mathlib.Omega.{arith}
+use mathlib.Core.Path.{_≡_, refl, sym, ap, _∙_}
+use mathlib.Core.Bool.{Bool, true, false, cond, true≢false}
+use mathlib.Core.List.{List, [], _∷_}
+use lib.ListN.{length}
+use lib.Dec.{eqb}
+use lib.IntN.{ℤ, pos, negsuc}
+use borrow.Author.Tests.{eq-eqb, ne-eqb}
+use Rattle.lists.specs.Bytes.{all, same}
+use Rattle.keys.specs.Keys.{upper, upperAll, sameKey, whichOf, isReserved, isKey, undoKey, minmaxKey, isUndone}
+use Rattle.frame.specs.declared.GainMode.{GainMode}
+use Rattle.values.specs.declared.UndoValues.{UndoValues}
+use Rattle.values.specs.declared.Range.{Range}
+use Rattle.values.specs.Undo.{formatUndo}
+use Rattle.values.specs.Range.{formatRange}
+use Rattle.values.proofs.ReadBack.{length-undo, length-range}
+use Rattle.items.specs.Items.{Item, areaBytes, setItem, without}
+use Rattle.items.proofs.Area.{AllSane}
+use Rattle.items.proofs.ItemLaws.{area-set, area-without, count-without, sane-without, sane-set, sane-key}
+use Rattle.calls.specs.Calls.{Level, sameStep, wraps, shiftItem, shiftStoredGain, shiftedItems}
+use Rattle.area_shift.specs.Shift.{goes}
+use Rattle.area_shift.proofs.Shifting.{shift-goes, shift-stays, shift-none, shift-count, shift-bytes}
+use Rattle.level_items.specs.Items.{undoneItems, rangedItems}
+
+-- ---- which way they go
+
+same-step : (a b : ℤ) → a ≡ b → sameStep a b ≡ true
+same-step (pos a) b e = rw (← e) (eq-eqb a a refl)
+same-step (negsuc a) b e = rw (← e) (eq-eqb a a refl)
+
+other-step : (a b : ℤ) → (a ≡ b → ⊥) → sameStep a b ≡ false
+other-step (pos a) (pos b) n = ne-eqb a b (λ e. n (ap pos e))
+other-step (pos a) (negsuc b) n = refl
+other-step (negsuc a) (pos b) n = refl
+other-step (negsuc a) (negsuc b) n = ne-eqb a b (λ e. n (ap negsuc e))
+
+module _ (l : Level) (ts : List Item) where
+  pub moved-equal : l .left ≡ l .right → shiftedItems l ts ≡ shiftStoredGain (l .mode) (l .left) ts
+  unfolding shiftedItems
+  moved-equal e = rw (same-step (l .left) (l .right) e)
+
+  pub moved-other : (l .left ≡ l .right → ⊥) → shiftedItems l ts ≡ without isUndone ts
+  unfolding shiftedItems
+  moved-other n = rw (other-step (l .left) (l .right) n)
+
+-- ---- they can be read back
+
+shift-sane : (m : GainMode) (steps : ℤ) (ts : List Item) → AllSane ts → AllSane (shiftStoredGain m steps ts)
+unfolding shiftItem
+shift-sane m steps [] s = rw (shift-none m steps) tt
+shift-sane m steps (t ∷ ts) (s, r) = go (goes m steps (t .key) (t .value)) refl (shift-sane m steps ts r)
+  where
+    go : (a : Bool) → goes m steps (t .key) (t .value) ≡ a → AllSane (shiftStoredGain m steps ts) → AllSane (shiftStoredGain m steps (t ∷ ts))
+    go true e ih = rw (shift-goes m steps t ts e) ih
+    go false e ih = rw (shift-stays m steps t ts e) (s, ih)
+
+pub moved-sane : (l : Level) (ts : List Item) → AllSane ts → AllSane (shiftedItems l ts)
+unfolding shiftedItems
+moved-sane l ts s = go (sameStep (l .left) (l .right)) refl
+  where
+    go : (a : Bool) → sameStep (l .left) (l .right) ≡ a → AllSane (cond a (shiftStoredGain (l .mode) (l .left) ts) (without isUndone ts))
+    go true e = shift-sane (l .mode) (l .left) ts s
+    go false e = sane-without isUndone ts s
+
+undo-key : isKey undoKey ≡ true
+unfolding isKey undoKey isReserved whichOf sameKey same upperAll upper all
+undo-key = refl
+
+pub undone-sane : (l : Level) (u : UndoValues) (ts : List Item) → AllSane ts → AllSane (undoneItems l u ts)
+unfolding undoneItems
+undone-sane l u ts s = sane-set undoKey (formatUndo (u .left) (u .right) (wraps (l .mode))) (shiftedItems l ts) (sane-key undoKey undo-key) (moved-sane l ts s)
+
+-- ---- they are short
+
+pub moved-short : (l : Level) (ts : List Item) → length ts ≤ 256 → length (areaBytes ts) ≤ 32768 → length (areaBytes (shiftedItems l ts)) ≤ 40960
+unfolding shiftedItems
+moved-short l ts c b = go (sameStep (l .left) (l .right)) refl
+  where
+    go : (a : Bool) → sameStep (l .left) (l .right) ≡ a → length (areaBytes (cond a (shiftStoredGain (l .mode) (l .left) ts) (without isUndone ts))) ≤ 40960
+    go true e = omega (arith, shift-bytes (l .mode) (l .left) ts)
+    go false e = omega (arith, area-without isUndone ts)
+
+pub undone-short : (l : Level) (u : UndoValues) (ts : List Item) → length ts ≤ 256 → length (areaBytes ts) ≤ 32768 → length (areaBytes (undoneItems l u ts)) ≤ 41006
+unfolding undoneItems undoKey
+undone-short l u ts c b =
+    omega (arith, area-set undoKey (formatUndo (u .left) (u .right) (wraps (l .mode))) (shiftedItems l ts), moved-short l ts c b, length-undo (u .left) (u .right) (wraps (l .mode)))
+
+pub ranged-short : (l : Level) (u : UndoValues) (r : Range) (ts : List Item) → length ts ≤ 256 → length (areaBytes ts) ≤ 32768 → length (areaBytes (rangedItems l u r ts)) ≤ 41036
+unfolding rangedItems minmaxKey
+ranged-short l u r ts c b = omega (arith, area-set minmaxKey (formatRange r) (undoneItems l u ts), undone-short l u ts c b, length-range r)
