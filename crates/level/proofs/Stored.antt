@@ -10,8 +10,6 @@ use Rattle.level.specs.declared.StoredUndo.{StoredUndo}
 use Rattle.level.specs.declared.StoredUndo.the-variants.{Steps, Nothing as NoUndo}
 use mathlib.Core.Option.{Option, none, some}
 use mathlib.Core.List.{List}
-use Rattle.lists.specs.Bytes.{all, same}
-use Rattle.keys.specs.Keys.{upper, upperAll, sameKey, whichOf, isReserved, isKey, undoKey}
 use Rattle.items.specs.declared.Found.{Found}
 use Rattle.items.specs.declared.Found.the-variants.{Value, Nothing, Refused}
 use Rattle.items.specs.Answers.{valueOf, isThere}
@@ -26,11 +24,6 @@ pub got-none : (s : List ℕ) (f : Found) → isThere f ≡ false → got s f �
 got-none s (Value start n) e = absurd (true≢false e)
 got-none s Nothing e = refl
 got-none s (Refused r) e = refl
-
--- MP3GAIN_UNDO is a good key
-pub undo-key : isKey undoKey ≡ true
-unfolding isKey undoKey isReserved whichOf sameKey same upperAll upper all
-undo-key = refl
 
 -- ---- what the answer tells of the stored text
 

@@ -1,13 +1,23 @@
 -- What level and undo answer and leave in what they are lent.
 use Prim.Native.Nat.{ℕ}
 use mathlib.Core.Option.{Option, none, some}
-use mathlib.Core.List.{List, []}
+use mathlib.Core.Bool.{true}
+use mathlib.Core.List.{List, [], _∷_}
 use lib.ListN.{length}
-use Rattle.replies.specs.Refusal.{Plan, no, yes}
+use Rattle.lists.specs.Choice.{found}
+use Rattle.replies.specs.Refusal.{Plan, no, yes, need, refusalOf, planned}
+use Rattle.replies.specs.declared.Refusal.the-variants.{TagTooLarge, FlagDiffers, UndoOutOfRange}
+use Rattle.values.specs.declared.UndoValues.{UndoValues}
 use Rattle.values.specs.Undo.{parseUndo, undoWraps}
-use Rattle.calls.specs.Calls.{Levelled}
+use Rattle.items.specs.Items.{Item}
+use Rattle.ape.specs.Tag.{replaced}
+use Rattle.ape.specs.Answers.{roomFor}
+use Rattle.calls.specs.Gate.{tagFits}
+use Rattle.calls.specs.Calls.{Level, Levelled, storedUndo, agrees, booked, numbersFit, newItems, levelGives}
 use Rattle.level.specs.declared.LevelAnswer.{LevelAnswer}
 use Rattle.level.specs.declared.LevelAnswer.the-variants.{Done, Refused}
+use Rattle.level.specs.declared.Booked.{Booked}
+use Rattle.level.specs.declared.Booked.the-variants.{Numbers, Refused as Unbooked}
 use Rattle.level.specs.declared.StoredUndo.{StoredUndo}
 use Rattle.level.specs.declared.StoredUndo.the-variants.{Steps, Nothing}
 
@@ -29,6 +39,29 @@ leftAfter (yes x) gains = x .left
 abbrev pub rightAfter : Plan Levelled → List ℕ → List ℕ
 rightAfter (no r) gains = gains
 rightAfter (yes x) gains = x .right
+
+-- the tests of level that the stored undo item decides: refusals 9 and 11
+unfoldable pub bookedPlan : Level → List Item → Plan UndoValues
+bookedPlan l ts =
+    planned
+    (refusalOf (need FlagDiffers (found (storedUndo ts) true (agrees (l .mode))) ∷ need UndoOutOfRange (numbersFit (booked l ts)) ∷ []))
+    (booked l ts)
+
+-- the numbers to store, or the refusal
+abbrev pub bookedAnswer : Plan UndoValues → Booked
+bookedAnswer (no r) = Unbooked r
+bookedAnswer (yes u) = Numbers u
+
+-- the last tests of level: refusals 6 and 5
+unfoldable pub lastPlan : List ℕ → List ℕ → List ℕ → Level → ℕ → Plan Levelled
+lastPlan file left right l room =
+    let new = newItems file left right l in
+    planned (refusalOf (need TagTooLarge (tagFits new) ∷ roomFor room (replaced file new) ∷ [])) (levelGives file left right l)
+
+-- a file that was written, with so many peak items
+abbrev pub filedAnswer : Plan (List ℕ) → ℕ → LevelAnswer
+filedAnswer (no r) peaks = Refused r
+filedAnswer (yes out) peaks = Done (length out) peaks
 
 -- the numbers and the flag of a stored undo text
 abbrev pub undoIs : Option (List ℕ) → StoredUndo

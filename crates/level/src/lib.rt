@@ -1,21 +1,28 @@
 // Level and undo: every gain moved, and the file with the items that say so.
 ghost use mathlib.Core.Path.{_≡_};
-ghost use mathlib.Core.Bool.{true};
+ghost use mathlib.Core.Bool.{true, cond};
 ghost use mathlib.Core.List.{_++_};
-ghost use Prim.Native.Nat.{min, max};
+ghost use Prim.Native.Nat.{_≤_, min, max};
 ghost use lib.ListN.{length};
 ghost use Rattle.lists.specs.Choice.{isSome};
 ghost use Rattle.lists.specs.Write.{over};
 ghost use Rattle.items.specs.Items.{parse, itemsIn};
-ghost use Rattle.calls.specs.Calls.{adjusted, least, greatest, rangeOf, storedUndo, undoPlan};
-ghost use Rattle.level.specs.Answers.{levelAnswer, levelBytes, leftAfter, rightAfter, undoIs};
+ghost use Rattle.items.specs.Answers.{isThere, valueOf};
+ghost use Rattle.ape_write.specs.Answers.{writtenBytes};
+ghost use Rattle.calls.specs.Gate.{itemsOf};
+ghost use Rattle.calls.specs.Calls.{adjusted, least, greatest, rangeOf, storedUndo, agrees, isUndoNumber, booked, countOf, isPeakKey, levelPlan, undoPlan};
+ghost use Rattle.edit.specs.Gate.{Passed, tagPlan};
+ghost use Rattle.level_items.specs.Items.{rangedItems};
+ghost use Rattle.level.specs.Answers.{levelAnswer, levelBytes, leftAfter, rightAfter, bookedPlan, bookedAnswer, lastPlan, filedAnswer, undoIs};
 use ape_write::Written;
 use area_edit::Drop;
 use edit::Editable;
 use frame::GainMode;
 use frame::GainSteps;
+use items::Found;
 use replies::Refusal;
 use values::Range;
+use values::UndoValues;
 
 // How long the new file is, and how many peak items its tag holds.
 pub enum LevelAnswer {
@@ -27,6 +34,12 @@ pub enum LevelAnswer {
 pub enum StoredUndo {
     Steps { left: i32, right: i32, wrap: bool },
     Nothing,
+}
+
+// The undo numbers that level stores.
+pub enum Booked {
+    Numbers(UndoValues),
+    Refused(Refusal),
 }
 
 // Moves every gain of a list.
@@ -152,5 +165,187 @@ pub fn undo(file: &[u8], left: &mut [u8], right: &mut [u8], out: &mut [u8]) -> L
     LevelAnswer::Done {
         length: n,
         peaks: 0,
+    }
+}
+
+// Whether a stored undo text, if there is one, has the flag of the call.
+fn flag_fits(area: &[u8], f: Found, mode: GainMode) -> bool
+    ensures { λ r. ⌜ r ≡ cond (isThere f) (agrees mode (valueOf (now (area .entry)) f)) true ⌝ }
+{
+    if !items::is_there(f) {
+        return true;
+    }
+    let wraps = values::parse_undo_wrap(items::value(area, f));
+    match mode {
+        GainMode::Saturating => !wraps,
+        GainMode::Wrapping => wraps,
+    }
+}
+
+// Whether a number lies in -32,768..32,767.
+fn is_undo_number(n: i32) -> bool
+    ensures { λ r. ⌜ r ≡ isUndoNumber n ⌝ }
+{
+    let a = integers::take_apart(n);
+    a.by < 32768
+}
+
+// The undo numbers that level stores in a well-formed area: refusals 9 and 11.
+fn book_undo(
+    area: &[u8],
+    count: usize,
+    left_steps: GainSteps,
+    right_steps: GainSteps,
+    mode: GainMode,
+) -> Booked
+    requires { ⌜ isSome (parse count (now area)) ≡ true ⌝ }
+    ensures { λ r. ⌜ r ≡ bookedAnswer (bookedPlan (record { left = «left_steps» .0; right = «right_steps» .0; mode = mode }) (itemsIn count (now (area .entry)))) ⌝ }
+{
+    let f = items::find(area, count, &keys::TAG_MP3GAIN_UNDO);
+    if !flag_fits(area, f, mode) {
+        return Booked::Refused(Refusal::FlagDiffers);
+    }
+    let u = values::accumulate_undo(items::value(area, f), left_steps, right_steps);
+    if !is_undo_number(u.left) {
+        return Booked::Refused(Refusal::UndoOutOfRange);
+    }
+    if !is_undo_number(u.right) {
+        return Booked::Refused(Refusal::UndoOutOfRange);
+    }
+    Booked::Numbers(u)
+}
+
+// The file with the items of a well-formed area, and how many of these hold a peak: refusals 6 and 5.
+fn filed(file: &[u8], area: &[u8], count: usize, out: &mut [u8]) -> LevelAnswer
+    requires { ⌜ (length (now file) ≤ 16777216) × (isSome (parse count (now area)) ≡ true) ⌝ }
+    ensures { λ r. ⌜ (r ≡ filedAnswer (tagPlan (now (file .entry)) (itemsIn count (now (area .entry))) (length (now (out .entry)))) (countOf isPeakKey (itemsIn count (now (area .entry))))) × (now (out .exit) ≡ over (writtenBytes (tagPlan (now (file .entry)) (itemsIn count (now (area .entry))) (length (now (out .entry))))) (now (out .entry))) ⌝ }
+{
+    let peaks = level_items::count_peaks(area, count);
+    let w = edit::finish(file, area, count, out);
+    match w {
+        Written::Done(length) => LevelAnswer::Done { length, peaks },
+        Written::Refused(r) => LevelAnswer::Refused(r),
+    }
+}
+
+// The file with the items that level leaves.
+fn write_file(
+    file: &[u8],
+    start: usize,
+    end: usize,
+    count: usize,
+    left_steps: GainSteps,
+    right_steps: GainSteps,
+    mode: GainMode,
+    undo: UndoValues,
+    range: Range,
+    out: &mut [u8],
+) -> LevelAnswer
+    requires { ⌜ (Passed (now file) start end count) × (length (now file) ≤ 16777216) ⌝ }
+    ensures { λ r. ⌜ (r ≡ filedAnswer (tagPlan (now (file .entry)) (rangedItems (record { left = «left_steps» .0; right = «right_steps» .0; mode = mode }) undo range (itemsOf (now (file .entry)))) (length (now (out .entry)))) (countOf isPeakKey (rangedItems (record { left = «left_steps» .0; right = «right_steps» .0; mode = mode }) undo range (itemsOf (now (file .entry)))))) × (now (out .exit) ≡ over (writtenBytes (tagPlan (now (file .entry)) (rangedItems (record { left = «left_steps» .0; right = «right_steps» .0; mode = mode }) undo range (itemsOf (now (file .entry)))) (length (now (out .entry))))) (now (out .entry))) ⌝ }
+{
+    let area = &file[start..end];
+    let mut new = edit::scratch();
+    let m = level_items::write_items(
+        area,
+        count,
+        left_steps,
+        right_steps,
+        mode,
+        undo,
+        range,
+        &mut new,
+    );
+    let n = m.length;
+    filed(file, &new[0..n], m.count, out)
+}
+
+// Level with these undo numbers in a file that is fit for editing. The gains move last.
+fn level_booked(
+    file: &[u8],
+    start: usize,
+    end: usize,
+    count: usize,
+    left: &mut [u8],
+    right: &mut [u8],
+    left_steps: GainSteps,
+    right_steps: GainSteps,
+    mode: GainMode,
+    undo: UndoValues,
+    out: &mut [u8],
+) -> LevelAnswer
+    requires { ⌜ (Passed (now file) start end count) × (length (now file) ≤ 16777216) × (undo ≡ booked (record { left = «left_steps» .0; right = «right_steps» .0; mode = mode }) (itemsOf (now file))) ⌝ }
+    ensures { λ r. ⌜ (r ≡ levelAnswer (lastPlan (now (file .entry)) (now (left .entry)) (now (right .entry)) (record { left = «left_steps» .0; right = «right_steps» .0; mode = mode }) (length (now (out .entry))))) × (now (out .exit) ≡ over (levelBytes (lastPlan (now (file .entry)) (now (left .entry)) (now (right .entry)) (record { left = «left_steps» .0; right = «right_steps» .0; mode = mode }) (length (now (out .entry))))) (now (out .entry))) × (now (left .exit) ≡ leftAfter (lastPlan (now (file .entry)) (now (left .entry)) (now (right .entry)) (record { left = «left_steps» .0; right = «right_steps» .0; mode = mode }) (length (now (out .entry)))) (now (left .entry))) × (now (right .exit) ≡ rightAfter (lastPlan (now (file .entry)) (now (left .entry)) (now (right .entry)) (record { left = «left_steps» .0; right = «right_steps» .0; mode = mode }) (length (now (out .entry)))) (now (right .entry))) ⌝ }
+{
+    let range = range_after(left, right, left_steps, right_steps, mode);
+    let a = write_file(
+        file,
+        start,
+        end,
+        count,
+        left_steps,
+        right_steps,
+        mode,
+        undo,
+        range,
+        out,
+    );
+    let LevelAnswer::Done {
+        length: _,
+        peaks: _,
+    } = a
+    else {
+        return a;
+    };
+    adjust_gains(left, left_steps, mode);
+    adjust_gains(right, right_steps, mode);
+    a
+}
+
+// Every gain moved, and the file with the items that say so: refusals 1, 2, 7, 8, 9, 11, 6 and 5. The reply is decided before the first
+// gain changes.
+pub fn level(
+    file: &[u8],
+    left: &mut [u8],
+    right: &mut [u8],
+    left_steps: GainSteps,
+    right_steps: GainSteps,
+    mode: GainMode,
+    out: &mut [u8],
+) -> LevelAnswer
+    ensures { λ r. ⌜ (r ≡ levelAnswer (levelPlan (now (file .entry)) (now (left .entry)) (now (right .entry)) (record { left = «left_steps» .0; right = «right_steps» .0; mode = mode }) (length (now (out .entry))))) × (now (out .exit) ≡ over (levelBytes (levelPlan (now (file .entry)) (now (left .entry)) (now (right .entry)) (record { left = «left_steps» .0; right = «right_steps» .0; mode = mode }) (length (now (out .entry))))) (now (out .entry))) × (now (left .exit) ≡ leftAfter (levelPlan (now (file .entry)) (now (left .entry)) (now (right .entry)) (record { left = «left_steps» .0; right = «right_steps» .0; mode = mode }) (length (now (out .entry)))) (now (left .entry))) × (now (right .exit) ≡ rightAfter (levelPlan (now (file .entry)) (now (left .entry)) (now (right .entry)) (record { left = «left_steps» .0; right = «right_steps» .0; mode = mode }) (length (now (out .entry)))) (now (right .entry))) ⌝ }
+{
+    if replies::FILE_LIMIT < file.len() {
+        return LevelAnswer::Refused(Refusal::FileTooLong);
+    }
+    if !slip::is_step(left_steps.0) {
+        return LevelAnswer::Refused(Refusal::StepOutOfRange);
+    }
+    if !slip::is_step(right_steps.0) {
+        return LevelAnswer::Refused(Refusal::StepOutOfRange);
+    }
+    if left.len() == 0 {
+        return LevelAnswer::Refused(Refusal::NoLeftGains);
+    }
+    let g = edit::gate(file);
+    let Editable::Items { start, end, count } = g else {
+        return LevelAnswer::Refused(Refusal::NotEditable);
+    };
+    let b = book_undo(&file[start..end], count, left_steps, right_steps, mode);
+    match b {
+        Booked::Numbers(undo) => level_booked(
+            file,
+            start,
+            end,
+            count,
+            left,
+            right,
+            left_steps,
+            right_steps,
+            mode,
+            undo,
+            out,
+        ),
+        Booked::Refused(r) => LevelAnswer::Refused(r),
     }
 }

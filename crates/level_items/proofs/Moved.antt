@@ -64,13 +64,23 @@ moved-sane l ts s = go (sameStep (l .left) (l .right)) refl
     go true e = shift-sane (l .mode) (l .left) ts s
     go false e = sane-without isUndone ts s
 
-undo-key : isKey undoKey ≡ true
+-- MP3GAIN_UNDO is a good key
+pub undo-key : isKey undoKey ≡ true
 unfolding isKey undoKey isReserved whichOf sameKey same upperAll upper all
 undo-key = refl
 
 pub undone-sane : (l : Level) (u : UndoValues) (ts : List Item) → AllSane ts → AllSane (undoneItems l u ts)
 unfolding undoneItems
 undone-sane l u ts s = sane-set undoKey (formatUndo (u .left) (u .right) (wraps (l .mode))) (shiftedItems l ts) (sane-key undoKey undo-key) (moved-sane l ts s)
+
+-- MP3GAIN_MINMAX is a good key
+minmax-key : isKey minmaxKey ≡ true
+unfolding isKey minmaxKey isReserved whichOf sameKey same upperAll upper all
+minmax-key = refl
+
+pub ranged-sane : (l : Level) (u : UndoValues) (r : Range) (ts : List Item) → AllSane ts → AllSane (rangedItems l u r ts)
+unfolding rangedItems
+ranged-sane l u r ts s = sane-set minmaxKey (formatRange r) (undoneItems l u ts) (sane-key minmaxKey minmax-key) (undone-sane l u ts s)
 
 -- ---- they are short
 

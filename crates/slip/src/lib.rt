@@ -62,7 +62,7 @@ fn mode_line(rest: &[u8]) -> ModeLine
 }
 
 // Whether it is a step in -255..255.
-fn is_step(n: i32) -> bool
+pub fn is_step(n: i32) -> bool
     ensures { λ r. ⌜ r ≡ S.isStep n ⌝ }
 {
     number::magnitude(integers::take_apart(n)) <= 255

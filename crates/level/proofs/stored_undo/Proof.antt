@@ -16,7 +16,8 @@ use Rattle.items.proofs.Places.{got}
 use Rattle.items.proofs.Finding.{get-is}
 use Rattle.calls.specs.Calls.{storedUndo}
 use Rattle.level.specs.Answers.{undoIs}
-use Rattle.level.proofs.Stored.{got-there, got-none, undo-key}
+use Rattle.level_items.proofs.Moved.{undo-key}
+use Rattle.level.proofs.Stored.{got-there, got-none}
 use Rattle.level.proofs.stored_undo.Statement.{statement}
 use Rattle.level.proofs.stored_undo.Tie as tie
 
