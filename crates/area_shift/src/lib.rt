@@ -81,8 +81,8 @@ pub fn write_shifted(
         } = s
         else {
             return Measure {
-                count: n,
-                length: o,
+                count: 0,
+                length: 0,
             };
         };
         left -= 1;
@@ -136,26 +136,21 @@ fn fits_shifted(area: &[u8], count: usize, steps: GainSteps, mode: GainMode, lim
         let Stepped::Item {
             flags: _,
             key_start,
-            key_end,
+            key_end: stop,
             value_start,
-            value_end,
+            value_end: end,
         } = s
         else {
             return false;
         };
         left -= 1;
-        if !goes(
-            &area[key_start..key_end],
-            &area[value_start..value_end],
-            steps,
-            mode,
-        ) {
-            size += item_size(area, at, key_end, value_end, steps);
+        if !goes(&area[key_start..stop], &area[value_start..end], steps, mode) {
+            size += item_size(area, at, stop, end, steps);
             if size > limit {
                 return false;
             }
         }
-        at = value_end;
+        at = end;
     }
     true
 }
