@@ -22,7 +22,7 @@ use Rattle.items.proofs.ItemLaws.{sane-set, sane-without, sane-key, parse-sane}
 use Rattle.area_edit.specs.Edits.{fits, answer, bytes, setPlan, removePlan, dropPlan}
 use Rattle.area_edit.specs.declared.Edited.{Edited}
 use Rattle.area_edit.specs.declared.Edited.the-variants.{Done, Refused}
-use Rattle.area_edit.proofs.Plans.{drop-12, drop-5, drop-yes, remove-12, remove-3, remove-good, set-12, set-3, set-4, set-5, set-yes}
+use Rattle.area_edit.proofs.Plans.{edit-12, edit-5, edit-yes, remove-12, remove-3, remove-good, set-12, set-3, set-4, set-5, set-yes}
 
 -- ---- an answer says what the plan is
 
@@ -68,10 +68,10 @@ module _ (n : ℕ) (s : List ℕ) (room : ℕ) (ts : List Item) where
   drop-done p e = go (isSome (parse n s)) (fits room (without p (itemsIn n s))) refl refl
     where
       go : (a r : Bool) → isSome (parse n s) ≡ a → fits room (without p (itemsIn n s)) ≡ r → (isSome (parse n s) ≡ true) × (ts ≡ without p (itemsIn n s)) × Fine room ts
-      go false r x y = clash e (drop-12 n s room p x)
-      go true false x y = clash e (drop-5 n s room p x y)
+      go false r x y = clash e (edit-12 n s room (without p) x)
+      go true false x y = clash e (edit-5 n s room (without p) x y)
       go true true x y =
-          let q : yes (without p (itemsIn n s)) ≡ yes ts = sym (drop-yes n s room p x y) ∙ e in
+          let q : yes (without p (itemsIn n s)) ≡ yes ts = sym (edit-yes n s room (without p) x y) ∙ e in
           let i : without p (itemsIn n s) ≡ ts = cc in
           (x, sym i, rw (← i) (fitted room (without p (itemsIn n s)) (sane-without p (itemsIn n s) (parse-sane n s)) y))
 

@@ -37,18 +37,19 @@ fits-long room ts h = rw (lt-leb _ _ h) (and-false (leb (length (areaBytes ts)) 
 -- ---- by the tests of each call
 
 module _ (n : ℕ) (s : List ℕ) (room : ℕ) where
-  module _ (p : List ℕ → Bool) where
-    pub drop-12 : isSome (parse n s) ≡ false → dropPlan p n s room ≡ no MalformedArea
+  -- an edit without tests of its own
+  module _ (f : List Item → List Item) where
+    pub edit-12 : isSome (parse n s) ≡ false → edited [] f n s room ≡ no MalformedArea
     unfolding edited
-    drop-12 a = rw a
+    edit-12 a = rw a
 
-    pub drop-5 : isSome (parse n s) ≡ true → fits room (without p (itemsIn n s)) ≡ false → dropPlan p n s room ≡ no NoRoom
+    pub edit-5 : isSome (parse n s) ≡ true → fits room (f (itemsIn n s)) ≡ false → edited [] f n s room ≡ no NoRoom
     unfolding edited
-    drop-5 a r = rw (a, r)
+    edit-5 a r = rw (a, r)
 
-    pub drop-yes : isSome (parse n s) ≡ true → fits room (without p (itemsIn n s)) ≡ true → dropPlan p n s room ≡ yes (without p (itemsIn n s))
+    pub edit-yes : isSome (parse n s) ≡ true → fits room (f (itemsIn n s)) ≡ true → edited [] f n s room ≡ yes (f (itemsIn n s))
     unfolding edited
-    drop-yes a r = rw (a, r)
+    edit-yes a r = rw (a, r)
 
   module _ (key : List ℕ) where
     pub remove-12 : isSome (parse n s) ≡ false → removePlan key n s room ≡ no MalformedArea

@@ -1,5 +1,5 @@
 -- Laws of the shift of stored values, and the loops over the items of an area that it leaves.
-use Prim.Native.Nat.{ℕ, _+_, _-_, _*_, _≤_, _<_}
+use Prim.Native.Nat.{ℕ, _+_, _-_, _*_, _/_, min, _≤_, _<_}
 use native.Mathlib.Nat.{zero-add, add-zero}
 use native.Mathlib.Omega.{arith}
 use mathlib.Core.Path.{_≡_, refl, sym, ap, _∙_}
@@ -8,20 +8,29 @@ use mathlib.Core.Option.{Option, none, some, Option·getD}
 use mathlib.Core.List.{List, [], _∷_, _++_, map, append-assoc, append-nil}
 use lib.ListN.{length, take, drop, length-append, take-append-drop}
 use lib.Seq.{length-take-le}
+use lib.Dec.{leb}
 use lib.IntN.{ℤ}
+use borrow.Author.Tests.{le-leb, lt-leb, leb-true, leb-false}
 use Rattle.lists.specs.Bytes.{Small}
-use Rattle.lists.specs.Choice.{found, isSome}
+use Rattle.lists.specs.Choice.{isSome}
 use Rattle.lists.specs.Le.{u32le}
 use Rattle.lists.specs.Write.{over, part}
 use Rattle.lists.proofs.Places.{part-is, length-part}
 use Rattle.lists.proofs.Wrote.{Wrote, start, from-start}
+use Rattle.replies.specs.Limits.{fileLimit}
 use Rattle.frame.specs.declared.GainMode.{GainMode}
 use Rattle.frame.specs.declared.GainMode.the-variants.{Saturating, Wrapping}
+use Rattle.decimal.specs.Writing.{shiftedIs}
+use Rattle.decimal.specs.declared.Text.{Text}
+use Rattle.decimal.specs.declared.Shifted.{Shifted}
+use Rattle.decimal.proofs.Texts.{Moved, moved-is, stays-is, text-within}
 use Rattle.values.specs.Stored.{shiftStored}
 use Rattle.values.proofs.Texts.{stored-short}
 use Rattle.items.specs.Items.{Item, itemBytes, areaBytes, sizeOf, parse, itemsIn}
-use Rattle.items.proofs.Area.{length-area, count-items}
+use Rattle.items.proofs.Area.{length-item, length-area, count-items, area-length}
 use Rattle.items.proofs.Loops.{Left, begin, Turn, items-none}
+use Rattle.area_edit.specs.Edits.{fits}
+use Rattle.area_edit.proofs.Plans.{fits-yes, fits-room, fits-long}
 use Rattle.calls.specs.Calls.{staying, shiftItem, shiftStoredGain}
 use Rattle.area_shift.specs.Shift.{goes, shiftedBytes}
 
@@ -91,10 +100,21 @@ module _ (steps : ℤ) (s : List ℕ) (a k e : ℕ) where
   unfolding shiftedBytes
   bytes-moved w q = rw q
 
-  -- how long it then is
-  pub moved-size : (w : List ℕ) → shiftStored (part (a + 8) k s) (part (k + 1) e s) steps ≡ some w → a + 8 ≤ k → k < e → e ≤ length s
-      → length (shiftedBytes steps s a k e) ≡ 4 + (k + 1 - (a + 4)) + length w
-  moved-size w q h i j = rw (bytes-moved w q) (simp length-append (omega (arith, length-part (a + 4) (k + 1) s (omega arith))))
+  -- what the code's answer says of them
+  module _ (x : Shifted) (q : x ≡ shiftedIs (shiftStored (part (a + 8) k s) (part (k + 1) e s) steps)) where
+    pub stays-bytes : x .moved ≡ false → shiftedBytes steps s a k e ≡ part a e s
+    stays-bytes f = bytes-found (stays-is _ x q f)
+
+    pub moved-text : x .moved ≡ true → Moved (shiftStored (part (a + 8) k s) (part (k + 1) e s) steps) x
+    moved-text f = moved-is _ x q f
+
+    pub moved-size : x .moved ≡ true → a + 8 ≤ k → k < e → e ≤ length s
+        → (length (shiftedBytes steps s a k e) ≡ k + 1 - a + x .text .len) × (x .text .len ≤ 21) × (x .text .len ≤ length (x .text .bytes))
+    moved-size f h i j =
+        let m = moved-text f in
+        let n : x .text .len ≡ length (m .w) = ap (λ (t : Text). t .len) (m .text) in
+        let l = length-part (a + 4) (k + 1) s (omega arith) in
+        (rw (bytes-moved (m .w) (m .is)) (simp length-append (omega arith)), omega (arith, stored-short _ _ steps (m .w) (m .is) .size), text-within (x .text) (m .w) (m .text))
 
 -- ---- the bytes of a turn's item
 
@@ -123,12 +143,70 @@ module _ (steps : ℤ) {s : List ℕ} {at left a b c d : ℕ} (t : Turn s at lef
       go none e = bytes-found steps s at b d (stored none e) ∙ t .bytes small ∙ rw e
       go (some w) e = bytes-moved steps s at b d w (stored (some w) e) ∙ rw (middle, e) (simp append-assoc)
 
--- ---- the loop that writes
-
 module _ (m : GainMode) (steps : ℤ) where
   -- what the shift leaves of items
   abbrev left-of : List Item → List Item
   left-of ts = shiftStoredGain m steps ts
+
+  -- ---- a turn's item goes or stays
+
+  module _ {s : List ℕ} {at left a b c d : ℕ} (t : Turn s at left a b c d) {y : Bool} (e : y ≡ goes m steps (part a b s) (part c d s)) where
+    test : (z : Bool) → y ≡ z → goes m steps (t .item .key) (t .item .value) ≡ z
+    test z f = rw (← t .key, ← t .value) (sym e ∙ f)
+
+    gone : y ≡ true → left-of (itemsIn left (drop at s)) ≡ left-of (itemsIn (left - 1) (drop d s))
+    gone f = ap left-of (t .list) ∙ shift-goes m steps (t .item) (itemsIn (left - 1) (drop d s)) (test true f)
+
+    kept : y ≡ false → left-of (itemsIn left (drop at s)) ≡ shiftItem steps (t .item) ∷ left-of (itemsIn (left - 1) (drop d s))
+    kept f = ap left-of (t .list) ∙ shift-stays m steps (t .item) (itemsIn (left - 1) (drop d s)) (test false f)
+
+  -- nothing is left of no items
+  ended : (s : List ℕ) (at left : ℕ) → left ≡ 0 → left-of (itemsIn left (drop at s)) ≡ []
+  ended s at left z = ap (λ (i : ℕ). left-of (itemsIn i (drop at s))) z ∙ ap left-of (items-none (drop at s)) ∙ shift-none m steps
+
+  -- ---- the loop that measures
+
+  -- what is left so far has `size` bytes, and what is left of the rest is to come
+  pub record Sizing (s : List ℕ) (count at left size : ℕ) : Type 0 where
+    pub todo : Left s at left
+    pub sized : length (areaBytes (left-of (itemsIn count s))) ≡ size + length (areaBytes (left-of (itemsIn left (drop at s))))
+
+  pub size-begin : (s : List ℕ) (count : ℕ) → isSome (parse count s) ≡ true → Sizing s count 0 count 0
+  size-begin s count e = record { todo = begin s count e; sized = sym (zero-add _) }
+
+  module _ {s : List ℕ} {count at left size a b c d : ℕ} (x : Sizing s count at left size) (t : Turn s at left a b c d) {y : Bool}
+      (e : y ≡ goes m steps (part a b s) (part c d s)) where
+    pub size-drop : y ≡ true → Sizing s count d (left - 1) size
+    size-drop f = record { todo = t .rest; sized = x .sized ∙ ap (λ (ts : List Item). size + length (areaBytes ts)) (gone t e f) }
+
+    pub size-keep : y ≡ false → Small s → Sizing s count d (left - 1) (size + length (shiftedBytes steps s at b d))
+    size-keep f sm =
+        let i = shiftItem steps (t .item) in
+        let r = left-of (itemsIn (left - 1) (drop d s)) in
+        let k : size + length (areaBytes (left-of (itemsIn left (drop at s)))) ≡ size + (sizeOf i + length (areaBytes r)) = rw (kept t e f, length-area i r) in
+        record { todo = t .rest; sized = omega (arith, x .sized, k, ap length (item-shifted steps t sm), length-item i) }
+
+  -- ---- whether it fits, by what was measured
+
+  pub size-over : {s : List ℕ} {count at left size limit : ℕ} → Sizing s count at left size → limit < size → false ≡ leb (length (areaBytes (left-of (itemsIn count s)))) limit
+  size-over {s} {count} {at} {left} {size} {limit} x h =
+      let g : limit < length (areaBytes (left-of (itemsIn count s))) = omega (arith, x .sized) in
+      sym (lt-leb _ _ g)
+
+  pub size-fits : {s : List ℕ} {count at left size limit : ℕ} → Sizing s count at left size → left ≡ 0 → size ≤ limit → true ≡ leb (length (areaBytes (left-of (itemsIn count s)))) limit
+  unfolding areaBytes
+  size-fits {s} {count} {at} {left} {size} {limit} x z h =
+      let e : length (areaBytes (left-of (itemsIn count s))) ≡ size = x .sized ∙ rw (ended s at left z) (add-zero size) in
+      sym (rw e (le-leb _ _ h))
+
+  -- there is room for a new text in every item
+  pub ample : (s : List ℕ) (count limit : ℕ) → isSome (parse count s) ≡ true → length s ≤ limit → count ≤ (limit - length s) / 32
+      → true ≡ leb (length (areaBytes (left-of (itemsIn count s)))) limit
+  ample s count limit e h g =
+      let k : length (areaBytes (left-of (itemsIn count s))) ≤ limit = omega (arith, shift-bytes m steps (itemsIn count s), area-length count s e, count-items count s e) in
+      sym (le-leb _ _ k)
+
+  -- ---- the loop that writes
 
   -- `done` are the bytes of the n items so far, and what is left of the rest is to come
   pub record Writing (s : List ℕ) (count : ℕ) (out₀ out : List ℕ) (at left n o : ℕ) : Type 0 where
@@ -145,12 +223,9 @@ module _ (m : GainMode) (steps : ℤ) where
 
   module _ {s : List ℕ} {count : ℕ} {out₀ out : List ℕ} {at left n o a b c d : ℕ} (x : Writing s count out₀ out at left n o) (t : Turn s at left a b c d) {y : Bool}
       (e : y ≡ goes m steps (part a b s) (part c d s)) where
-    test : (z : Bool) → y ≡ z → goes m steps (t .item .key) (t .item .value) ≡ z
-    test z f = rw (← t .key, ← t .value) (sym e ∙ f)
-
     pub write-drop : y ≡ true → Writing s count out₀ out d (left - 1) n o
     write-drop f =
-        let q : left-of (itemsIn left (drop at s)) ≡ left-of (itemsIn (left - 1) (drop d s)) = ap left-of (t .list) ∙ shift-goes m steps (t .item) (itemsIn (left - 1) (drop d s)) (test true f) in
+        let q = gone t e f in
         record {
           todo = t .rest;
           done = x .done;
@@ -162,18 +237,15 @@ module _ (m : GainMode) (steps : ℤ) where
 
     -- the item stays
     module _ (f : y ≡ false) where
-      kept : left-of (itemsIn left (drop at s)) ≡ shiftItem steps (t .item) ∷ left-of (itemsIn (left - 1) (drop d s))
-      kept = ap left-of (t .list) ∙ shift-stays m steps (t .item) (itemsIn (left - 1) (drop d s)) (test false f)
-
       kept-same : areaBytes (left-of (itemsIn count s)) ≡ (x .done ++ itemBytes (shiftItem steps (t .item))) ++ areaBytes (left-of (itemsIn (left - 1) (drop d s)))
       unfolding areaBytes
       kept-same =
           x .same
-          ∙ ap (λ (ts : List Item). x .done ++ areaBytes ts) kept
+          ∙ ap (λ (ts : List Item). x .done ++ areaBytes ts) (kept t e f)
           ∙ sym (append-assoc (x .done) (itemBytes (shiftItem steps (t .item))) (areaBytes (left-of (itemsIn (left - 1) (drop d s)))))
 
       kept-count : length (left-of (itemsIn count s)) ≡ n + 1 + length (left-of (itemsIn (left - 1) (drop d s)))
-      kept-count = x .counted ∙ ap (λ (ts : List Item). n + length ts) kept ∙ omega arith
+      kept-count = x .counted ∙ ap (λ (ts : List Item). n + length ts) (kept t e f) ∙ omega arith
 
       -- one more can be counted
       pub write-few : isSome (parse count s) ≡ true → n + 1 ≤ count
@@ -194,6 +266,28 @@ module _ (m : GainMode) (steps : ℤ) where
       → (n ≡ length (left-of (itemsIn count s))) × (o ≡ length (areaBytes (left-of (itemsIn count s)))) × (out ≡ over (areaBytes (left-of (itemsIn count s))) out₀)
   unfolding areaBytes
   write-end {s} {count} {out₀} {out} {at} {left} {n} {o} x z =
-      let e : left-of (itemsIn left (drop at s)) ≡ [] = ap (λ (i : ℕ). left-of (itemsIn i (drop at s))) z ∙ ap left-of (items-none (drop at s)) ∙ shift-none m steps in
+      let e = ended s at left z in
       let k : areaBytes (left-of (itemsIn count s)) ≡ x .done = x .same ∙ ap (λ (ts : List Item). x .done ++ areaBytes ts) e ∙ append-nil (x .done) in
       (sym (x .counted ∙ rw e (add-zero n)), x .wrote .ends ∙ rw (zero-add, k), from-start (x .wrote) ∙ rw k)
+
+-- ---- refusal 5, by one limit
+
+module _ (room limit : ℕ) (ts : List Item) (r : Bool) (l : limit ≡ min room fileLimit) (e : r ≡ leb (length (areaBytes ts)) limit) where
+  pub fits-no : r ≡ false → fits room ts ≡ false
+  fits-no f = go (leb room fileLimit) refl
+    where
+      long : limit < length (areaBytes ts)
+      long = leb-false _ _ (sym e ∙ f)
+
+      go : (b : Bool) → leb room fileLimit ≡ b → fits room ts ≡ false
+      go true q = fits-room room ts (omega (arith, long, leb-true room fileLimit q))
+      go false q = fits-long room ts (omega (arith, long, leb-false room fileLimit q))
+
+  short : r ≡ true → length (areaBytes ts) ≤ limit
+  short f = leb-true _ _ (sym e ∙ f)
+
+  pub room-for : r ≡ true → length (areaBytes ts) ≤ room
+  room-for f = omega (arith, short f)
+
+  pub fits-all : r ≡ true → fits room ts ≡ true
+  fits-all f = fits-yes room ts (room-for f) (omega (arith, short f))

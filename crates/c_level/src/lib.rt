@@ -1,10 +1,17 @@
-// The faces of crate level: undo on a file and its gains.
+// The faces of crates level and area_shift: undo on a file and its gains, and the shift of an area.
 ghost use mathlib.Core.Path.{_≡_};
 ghost use lib.ListN.{length};
 ghost use Rattle.lists.specs.Write.{over};
+ghost use Rattle.frame.specs.Gain.{modeOf};
+ghost use Rattle.area_edit.specs.Edits.{answer, bytes};
 ghost use Rattle.calls.specs.Calls.{undoPlan};
+ghost use Rattle.area_shift.specs.Shift.{shiftPlan};
 ghost use Rattle.level.specs.Answers.{levelAnswer, levelBytes, leftAfter, rightAfter};
+ghost use Rattle.c_items.specs.ItemsFace.{editedFace};
 ghost use Rattle.c_level.specs.LevelFace.{levelFace};
+use area_edit::Edited;
+use frame::GainMode;
+use frame::GainSteps;
 use level::LevelAnswer;
 
 // Every gain moved back by the stored undo, and the file without the eight keys written to the front of `out`, its length into `written` and the
@@ -20,7 +27,7 @@ pub extern "C" fn zib_undo(
 ) -> u32
     ensures { λ r. ⌜ (r ≡ levelFace (levelAnswer (undoPlan (now (file .entry)) (now (left .entry)) (now (right .entry)) (length (now (out .entry))))) (now (written .entry)) (now (peaks .entry)) .reply) × (now (written .exit) ≡ levelFace (levelAnswer (undoPlan (now (file .entry)) (now (left .entry)) (now (right .entry)) (length (now (out .entry))))) (now (written .entry)) (now (peaks .entry)) .written) × (now (peaks .exit) ≡ levelFace (levelAnswer (undoPlan (now (file .entry)) (now (left .entry)) (now (right .entry)) (length (now (out .entry))))) (now (written .entry)) (now (peaks .entry)) .peaks) × (now (out .exit) ≡ over (levelBytes (undoPlan (now (file .entry)) (now (left .entry)) (now (right .entry)) (length (now (out .entry))))) (now (out .entry))) × (now (left .exit) ≡ leftAfter (undoPlan (now (file .entry)) (now (left .entry)) (now (right .entry)) (length (now (out .entry)))) (now (left .entry))) × (now (right .exit) ≡ rightAfter (undoPlan (now (file .entry)) (now (left .entry)) (now (right .entry)) (length (now (out .entry)))) (now (right .entry))) ⌝ }
 {
-    let w = level::undo(file, left, right, out);
+    let w = undo::undo(file, left, right, out);
     match w {
         LevelAnswer::Done {
             length: n,
@@ -31,5 +38,34 @@ pub extern "C" fn zib_undo(
             0
         }
         LevelAnswer::Refused(r) => replies::number(r),
+    }
+}
+
+// The area after so many steps, under W if `wrap`: written to the front of `out`, how many items it has into `items`, and its length into
+// `written`. Refusals 12 and 5.
+#[no_mangle]
+pub extern "C" fn zib_shift_stored_gain(
+    area: &[u8],
+    count: usize,
+    steps: i32,
+    wrap: bool,
+    out: &mut [u8],
+    items: &mut usize,
+    written: &mut usize,
+) -> u32
+    ensures { λ r. ⌜ (r ≡ editedFace (answer (shiftPlan (modeOf wrap) steps count (now (area .entry)) (length (now (out .entry))))) (now (items .entry)) (now (written .entry)) .reply) × (now (items .exit) ≡ editedFace (answer (shiftPlan (modeOf wrap) steps count (now (area .entry)) (length (now (out .entry))))) (now (items .entry)) (now (written .entry)) .items) × (now (written .exit) ≡ editedFace (answer (shiftPlan (modeOf wrap) steps count (now (area .entry)) (length (now (out .entry))))) (now (items .entry)) (now (written .entry)) .written) × (now (out .exit) ≡ over (bytes (shiftPlan (modeOf wrap) steps count (now (area .entry)) (length (now (out .entry))))) (now (out .entry))) ⌝ }
+{
+    let mode = GainMode::from_wrap(wrap);
+    let e = area_shift::shift_stored_gain(area, count, GainSteps(steps), mode, out);
+    match e {
+        Edited::Done {
+            count: n,
+            length: m,
+        } => {
+            *items = n;
+            *written = m;
+            0
+        }
+        Edited::Refused(r) => replies::number(r),
     }
 }

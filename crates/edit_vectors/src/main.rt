@@ -57,7 +57,7 @@ fn remove(text: &[u8], at: usize) -> bool {
 // Whether undo answers the four words from this place: the reply, the file, and the gains afterwards, also of a refused call.
 fn undone(text: &[u8], at: usize, file: &[u8], left: &mut [u8], right: &mut [u8]) -> bool {
     let mut out = [0u8; 4096];
-    let u = level::undo(file, left, right, &mut out);
+    let u = undo::undo(file, left, right, &mut out);
     let w = match u {
         LevelAnswer::Done { length, peaks: _ } => Written::Done(length),
         LevelAnswer::Refused(reason) => Written::Refused(reason),

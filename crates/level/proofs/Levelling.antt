@@ -30,6 +30,15 @@ use Rattle.level.specs.declared.LevelAnswer.{LevelAnswer}
 use Rattle.level.specs.declared.LevelAnswer.the-variants.{Done, Refused}
 use Rattle.level.specs.Answers.{filedAnswer, bookedPlan, bookedAnswer, lastPlan}
 
+-- a list that is not empty
+pub there : (s : List ℕ) → (length s ≡ 0 → ⊥) → isThere s ≡ true
+there [] h = absurd (h refl)
+there (x ∷ s) h = refl
+
+pub not-there : (s : List ℕ) → length s ≡ 0 → isThere s ≡ false
+not-there [] h = refl
+not-there (x ∷ s) h = absurd (omega arith)
+
 -- ---- a file that was written
 
 pub filed-done : (p : Plan (List ℕ)) {w : Written} {n : ℕ} (peaks : ℕ) → w ≡ writtenAnswer p → w ≡ Wrote n → Done n peaks ≡ filedAnswer p peaks

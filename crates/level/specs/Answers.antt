@@ -1,6 +1,5 @@
 -- What level and undo answer and leave in what they are lent.
 use Prim.Native.Nat.{ℕ}
-use mathlib.Core.Option.{Option, none, some}
 use mathlib.Core.Bool.{true}
 use mathlib.Core.List.{List, [], _∷_}
 use lib.ListN.{length}
@@ -8,7 +7,6 @@ use Rattle.lists.specs.Choice.{found}
 use Rattle.replies.specs.Refusal.{Plan, no, yes, need, refusalOf, planned}
 use Rattle.replies.specs.declared.Refusal.the-variants.{TagTooLarge, FlagDiffers, UndoOutOfRange}
 use Rattle.values.specs.declared.UndoValues.{UndoValues}
-use Rattle.values.specs.Undo.{parseUndo, undoWraps}
 use Rattle.items.specs.Items.{Item}
 use Rattle.ape.specs.Tag.{replaced}
 use Rattle.ape.specs.Answers.{roomFor}
@@ -18,8 +16,6 @@ use Rattle.level.specs.declared.LevelAnswer.{LevelAnswer}
 use Rattle.level.specs.declared.LevelAnswer.the-variants.{Done, Refused}
 use Rattle.level.specs.declared.Booked.{Booked}
 use Rattle.level.specs.declared.Booked.the-variants.{Numbers, Refused as Unbooked}
-use Rattle.level.specs.declared.StoredUndo.{StoredUndo}
-use Rattle.level.specs.declared.StoredUndo.the-variants.{Steps, Nothing}
 
 -- the length of the file and the count of its peak items, or the refusal
 abbrev pub levelAnswer : Plan Levelled → LevelAnswer
@@ -62,8 +58,3 @@ lastPlan file left right l room =
 abbrev pub filedAnswer : Plan (List ℕ) → ℕ → LevelAnswer
 filedAnswer (no r) peaks = Refused r
 filedAnswer (yes out) peaks = Done (length out) peaks
-
--- the numbers and the flag of a stored undo text
-abbrev pub undoIs : Option (List ℕ) → StoredUndo
-undoIs none = Nothing
-undoIs (some s) = Steps ((parseUndo s) .left) ((parseUndo s) .right) (undoWraps s)

@@ -3,7 +3,7 @@ use native.Mathlib.Omega.{arith}
 use borrow.Author.Needs.{needs}
 use Rattle.items.specs.Items.{without}
 use Rattle.area_edit.specs.Edits.{dropped}
-use Rattle.area_edit.proofs.Plans.{fits-yes, fits-room, fits-long, drop-12, drop-5, drop-yes, refused, finished, Sized, sized, unsized}
+use Rattle.area_edit.proofs.Plans.{fits-yes, fits-room, fits-long, edit-12, edit-5, edit-yes, refused, finished, Sized, sized, unsized}
 use Rattle.area_edit.proofs.edit_without.Statement.{statement}
 use Rattle.area_edit.proofs.edit_without.Tie as tie
 
@@ -12,7 +12,7 @@ returns c =
     let m = c .before .before in
     let g = m .before .before .before .before .args in
     let p = dropped (g .what) (g .key .now) in
-    refused (g .out .now) (drop-12 (g .count) (g .area .now) _ p (unsized (without p) (g .count) (g .area .now) (sym (c .enum-told .given .1) ∙ m .measure-without .ensures)))
+    refused (g .out .now) (edit-12 (g .count) (g .area .now) _ (without p) (unsized (without p) (g .count) (g .area .now) (sym (c .enum-told .given .1) ∙ m .measure-without .ensures)))
 
 -- what the measure says
 here : (c : tie.After-known-told) → let v = c .before .m .given .0 in let g = c .before .before .before .before .before .before .before .args in
@@ -28,7 +28,7 @@ returns-2 c =
     let g = k .before .before .before .before .before .before .before .args in
     let p = dropped (g .what) (g .key .now) in
     let x = here k in
-    refused (g .out .now) (drop-5 (g .count) (g .area .now) _ p (x .some) (fits-room _ _ (omega (arith, x .length))))
+    refused (g .out .now) (edit-5 (g .count) (g .area .now) _ (without p) (x .some) (fits-room _ _ (omega (arith, x .length))))
 
 returns-3 : tie.Need-returns-3
 returns-3 c =
@@ -36,7 +36,7 @@ returns-3 c =
     let g = k .before .before .before .before .before .before .before .args in
     let p = dropped (g .what) (g .key .now) in
     let x = here k in
-    refused (g .out .now) (drop-5 (g .count) (g .area .now) _ p (x .some) (fits-long _ _ (omega (arith, x .length))))
+    refused (g .out .now) (edit-5 (g .count) (g .area .now) _ (without p) (x .some) (fits-long _ _ (omega (arith, x .length))))
 
 write-without-requires : tie.Need-write-without-requires
 write-without-requires c κs = let x = here (c .before .before .before) in (x .some, omega (arith, x .length, c .before .before .if1 .left))
@@ -49,7 +49,7 @@ returns-4 c =
     let p = dropped (g .what) (g .key .now) in
     let x = here k in
     finished (g .out .now)
-    (drop-yes (g .count) (g .area .now) _ p (x .some) (fits-yes _ _ (omega (arith, x .length, w .before .before .before .if1 .left)) (omega (arith, x .length, w .before .before .if2 .left))))
+    (edit-yes (g .count) (g .area .now) _ (without p) (x .some) (fits-yes _ _ (omega (arith, x .length, w .before .before .before .if1 .left)) (omega (arith, x .length, w .before .before .if2 .left))))
     (x .count) (w .write-without .ensures .0) (w .write-without .ensures .1)
 
 pub edit-without-spec : {M : Type 1} → statement M

@@ -9,13 +9,11 @@ use Rattle.lists.specs.Write.{part}
 use Rattle.lists.proofs.Places.{length-part}
 use Rattle.lists.proofs.Wrote.{start, next, done}
 use Rattle.decimal.specs.declared.Text.{Text}
-use Rattle.decimal.proofs.Texts.{Moved, moved-is, stays-is, text-within, lent-part}
-use Rattle.values.specs.Stored.{shiftStored}
-use Rattle.values.proofs.Texts.{stored-short}
+use Rattle.decimal.proofs.Texts.{lent-part}
 use Rattle.area_shift.specs.Shift.{shiftedBytes}
 use Rattle.area_shift.proofs.put_item.Statement.{statement}
 use Rattle.area_shift.proofs.put_item.Tie as tie
-use Rattle.area_shift.proofs.Shifting.{bytes-found, bytes-moved, moved-size}
+use Rattle.area_shift.proofs.Shifting.{bytes-moved, stays-bytes, moved-text, moved-size}
 
 -- it stays as found
 stays : (c : tie.After-put-part-arg) → let g = c .before .before .before .before .before .before .before .before .args in
@@ -24,28 +22,19 @@ stays c =
     let v = c .before .before .before in
     let g = v .before .before .before .before .before .args in
     let x = v .shift-stored-value .result in
-    bytes-found (g .steps .0) (g .area .now) (g .at) (g .stop) (g .end) (stays-is _ x (v .shift-stored-value .ensures) (not-true (x .moved) (c .before .if1 .taken)))
+    stays-bytes (g .steps .0) (g .area .now) (g .at) (g .stop) (g .end) x (v .shift-stored-value .ensures) (not-true (x .moved) (c .before .if1 .taken))
 
--- it has a new text
-moved : (c : tie.After-put-u32-le-arg) → let v = c .before .before .before .before .before in let g = v .before .before .before .before .before .args in
-    Moved (shiftStored (part (g .at + 8) (g .stop) (g .area .now)) (part (g .stop + 1) (g .end) (g .area .now)) (g .steps .0)) (v .shift-stored-value .result)
-moved c =
-    let v = c .before .before .before .before .before in
-    let x = v .shift-stored-value .result in
-    moved-is _ x (v .shift-stored-value .ensures) (not-false (x .moved) (c .before .before .before .if1 .left))
-
--- how long it is, and its text
+-- it has a new text: how long it then is
 sized : (c : tie.After-put-u32-le-arg) → let v = c .before .before .before .before .before in let g = v .before .before .before .before .before .args in
-    (length (shiftedBytes (g .steps .0) (g .area .now) (g .at) (g .stop) (g .end)) ≡ 4 + (g .stop + 1 - (g .at + 4)) + v .shift-stored-value .result .text .len)
-    × (v .shift-stored-value .result .text .len ≤ 21) × (v .shift-stored-value .result .text .len ≤ length (v .shift-stored-value .result .text .bytes))
+    let t = v .shift-stored-value .result .text in
+    (length (shiftedBytes (g .steps .0) (g .area .now) (g .at) (g .stop) (g .end)) ≡ g .stop + 1 - g .at + t .len) × (t .len ≤ 21) × (t .len ≤ length (t .bytes))
 sized c =
     let v = c .before .before .before .before .before in
     let b = v .before .before .before .before .before in
     let g = b .args in
-    let m = moved c in
-    let n : v .shift-stored-value .result .text .len ≡ length (m .w) = ap (λ (t : Text). t .len) (m .text) in
-    let l = moved-size (g .steps .0) (g .area .now) (g .at) (g .stop) (g .end) (m .w) (m .is) (b .pre .0) (b .pre .1) (b .pre .2) in
-    (omega (arith, l), omega (arith, stored-short _ _ (g .steps .0) (m .w) (m .is) .size), text-within _ (m .w) (m .text))
+    let x = v .shift-stored-value .result in
+    moved-size (g .steps .0) (g .area .now) (g .at) (g .stop) (g .end) x (v .shift-stored-value .ensures) (not-false (x .moved) (c .before .before .before .if1 .left))
+    (b .pre .0) (b .pre .1) (b .pre .2)
 
 put-part-requires : tie.Need-put-part-requires
 put-part-requires c κs =
@@ -72,7 +61,7 @@ put-part-requires-3 c κs =
     let p1 = p2 .before .before .before .before in
     let k = p1 .before in
     let z = sized k in
-    (omega arith, z .2, omega (arith, z, k .before .before .before .before .before .before .before .before .before .before .pre .3, p1 .put-u32-le .ensures .0, p1 .put-u32-le .kept .0, p2 .put-part2 .ensures .2, p2 .put-part2 .kept .0))
+    (omega arith, z .2, omega (arith, z, k .before .before .before .before .before .before .before .before .before .before .pre, p1 .put-u32-le .ensures .0, p1 .put-u32-le .kept .0, p2 .put-part2 .ensures .2, p2 .put-part2 .kept .0))
 
 returns-2 : tie.Need-returns-2
 returns-2 c =
@@ -84,8 +73,9 @@ returns-2 c =
     let b = v .before .before .before .before .before in
     let g = b .args in
     let s = g .area .now in
-    let m = moved k in
-    let t = v .shift-stored-value .result .text in
+    let x = v .shift-stored-value .result in
+    let t = x .text in
+    let m = moved-text (g .steps .0) s (g .at) (g .stop) (g .end) x (v .shift-stored-value .ensures) (not-false (x .moved) (k .before .before .before .if1 .left)) in
     let n : t .len ≡ length (m .w) = ap (λ (t : Text). t .len) (m .text) in
     let e2 = p2 .put-part2 .ensures in
     let e3 = p3 .put-part3 .ensures in

@@ -1,0 +1,77 @@
+// Undo: every gain moved back, and the file without the items that said so.
+ghost use mathlib.Core.Path.{_≡_};
+ghost use mathlib.Core.Bool.{true};
+ghost use lib.ListN.{length};
+ghost use Rattle.lists.specs.Choice.{isSome};
+ghost use Rattle.lists.specs.Write.{over};
+ghost use Rattle.items.specs.Items.{parse, itemsIn};
+ghost use Rattle.calls.specs.Calls.{storedUndo, undoPlan};
+ghost use Rattle.level.specs.Answers.{levelAnswer, levelBytes, leftAfter, rightAfter};
+ghost use Rattle.undo.specs.Stored.{undoIs};
+use ape_write::Written;
+use area_edit::Drop;
+use edit::Editable;
+use frame::GainMode;
+use frame::GainSteps;
+use level::LevelAnswer;
+use replies::Refusal;
+
+// What the first undo item of an area says.
+pub enum StoredUndo {
+    Steps { left: i32, right: i32, wrap: bool },
+    Nothing,
+}
+
+// The undo numbers and the flag that the first undo item of a well-formed area holds.
+pub fn stored_undo(area: &[u8], count: usize) -> StoredUndo
+    requires { ⌜ isSome (parse count (now area)) ≡ true ⌝ }
+    ensures { λ r. ⌜ r ≡ undoIs (storedUndo (itemsIn count (now (area .entry)))) ⌝ }
+{
+    let f = items::find(area, count, &keys::TAG_MP3GAIN_UNDO);
+    if !items::is_there(f) {
+        return StoredUndo::Nothing;
+    }
+    let text = items::value(area, f);
+    let u = values::parse_undo_values(text);
+    StoredUndo::Steps {
+        left: u.left,
+        right: u.right,
+        wrap: values::parse_undo_wrap(text),
+    }
+}
+
+// Every gain moved back by the stored numbers, and the file without the eight keys: refusals 1, 7, 8, 10 and 5. The reply is decided before the
+// first gain changes.
+pub fn undo(file: &[u8], left: &mut [u8], right: &mut [u8], out: &mut [u8]) -> LevelAnswer
+    ensures { λ r. ⌜ (r ≡ levelAnswer (undoPlan (now (file .entry)) (now (left .entry)) (now (right .entry)) (length (now (out .entry))))) × (now (out .exit) ≡ over (levelBytes (undoPlan (now (file .entry)) (now (left .entry)) (now (right .entry)) (length (now (out .entry))))) (now (out .entry))) × (now (left .exit) ≡ leftAfter (undoPlan (now (file .entry)) (now (left .entry)) (now (right .entry)) (length (now (out .entry)))) (now (left .entry))) × (now (right .exit) ≡ rightAfter (undoPlan (now (file .entry)) (now (left .entry)) (now (right .entry)) (length (now (out .entry)))) (now (right .entry))) ⌝ }
+{
+    if replies::FILE_LIMIT < file.len() {
+        return LevelAnswer::Refused(Refusal::FileTooLong);
+    }
+    if left.len() == 0 {
+        return LevelAnswer::Refused(Refusal::NoLeftGains);
+    }
+    let g = edit::gate(file);
+    let Editable::Items { start, end, count } = g else {
+        return LevelAnswer::Refused(Refusal::NotEditable);
+    };
+    let u = stored_undo(&file[start..end], count);
+    let StoredUndo::Steps {
+        left: left_steps,
+        right: right_steps,
+        wrap,
+    } = u
+    else {
+        return LevelAnswer::Refused(Refusal::NoUndo);
+    };
+    let w = edit::drop_items(file, start, end, count, Drop::Mp3gain, b"", out);
+    let Written::Done(n) = w else {
+        return LevelAnswer::Refused(Refusal::NoRoom);
+    };
+    gains::adjust_gains(left, GainSteps(left_steps), GainMode::from_wrap(wrap));
+    gains::adjust_gains(right, GainSteps(right_steps), GainMode::from_wrap(wrap));
+    LevelAnswer::Done {
+        length: n,
+        peaks: 0,
+    }
+}
