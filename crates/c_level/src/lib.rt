@@ -1,10 +1,10 @@
-// The faces of crates level and area_shift: undo on a file and its gains, and the shift of an area.
+// The faces of crates level, undo and area_shift: level and undo on a file and its gains, and the shift of an area.
 ghost use mathlib.Core.Path.{_≡_};
 ghost use lib.ListN.{length};
 ghost use Rattle.lists.specs.Write.{over};
 ghost use Rattle.frame.specs.Gain.{modeOf};
 ghost use Rattle.area_edit.specs.Edits.{answer, bytes};
-ghost use Rattle.calls.specs.Calls.{undoPlan};
+ghost use Rattle.calls.specs.Calls.{levelPlan, undoPlan};
 ghost use Rattle.area_shift.specs.Shift.{shiftPlan};
 ghost use Rattle.level.specs.Answers.{levelAnswer, levelBytes, leftAfter, rightAfter};
 ghost use Rattle.c_items.specs.ItemsFace.{editedFace};
@@ -13,6 +13,52 @@ use area_edit::Edited;
 use frame::GainMode;
 use frame::GainSteps;
 use level::LevelAnswer;
+
+// Puts what was done into the lent numbers. The reply is 0, or the number of the refusal.
+fn put_answer(w: LevelAnswer, written: &mut usize, peaks: &mut usize) -> u32
+    ensures { λ r. ⌜ (r ≡ levelFace w (now (written .entry)) (now (peaks .entry)) .reply) × (now (written .exit) ≡ levelFace w (now (written .entry)) (now (peaks .entry)) .written) × (now (peaks .exit) ≡ levelFace w (now (written .entry)) (now (peaks .entry)) .peaks) ⌝ }
+{
+    match w {
+        LevelAnswer::Done {
+            length: n,
+            peaks: p,
+        } => {
+            *written = n;
+            *peaks = p;
+            0
+        }
+        LevelAnswer::Refused(r) => replies::number(r),
+    }
+}
+
+// Every gain moved by its side's steps, under W if `wrap`, and the file with the items that say so written to the front of `out`, its length into
+// `written` and the number of its peak items into `peaks`. Refusals 1, 2, 7, 8, 9, 11, 6 and 5.
+#[no_mangle]
+pub extern "C" fn zib_level(
+    file: &[u8],
+    left: &mut [u8],
+    right: &mut [u8],
+    left_steps: i32,
+    right_steps: i32,
+    wrap: bool,
+    out: &mut [u8],
+    written: &mut usize,
+    peaks: &mut usize,
+) -> u32
+    ensures { λ r. ⌜ (r ≡ levelFace (levelAnswer (levelPlan (now (file .entry)) (now (left .entry)) (now (right .entry)) (record { left = «left_steps»; right = «right_steps»; mode = modeOf wrap }) (length (now (out .entry))))) (now (written .entry)) (now (peaks .entry)) .reply) × (now (written .exit) ≡ levelFace (levelAnswer (levelPlan (now (file .entry)) (now (left .entry)) (now (right .entry)) (record { left = «left_steps»; right = «right_steps»; mode = modeOf wrap }) (length (now (out .entry))))) (now (written .entry)) (now (peaks .entry)) .written) × (now (peaks .exit) ≡ levelFace (levelAnswer (levelPlan (now (file .entry)) (now (left .entry)) (now (right .entry)) (record { left = «left_steps»; right = «right_steps»; mode = modeOf wrap }) (length (now (out .entry))))) (now (written .entry)) (now (peaks .entry)) .peaks) × (now (out .exit) ≡ over (levelBytes (levelPlan (now (file .entry)) (now (left .entry)) (now (right .entry)) (record { left = «left_steps»; right = «right_steps»; mode = modeOf wrap }) (length (now (out .entry))))) (now (out .entry))) × (now (left .exit) ≡ leftAfter (levelPlan (now (file .entry)) (now (left .entry)) (now (right .entry)) (record { left = «left_steps»; right = «right_steps»; mode = modeOf wrap }) (length (now (out .entry)))) (now (left .entry))) × (now (right .exit) ≡ rightAfter (levelPlan (now (file .entry)) (now (left .entry)) (now (right .entry)) (record { left = «left_steps»; right = «right_steps»; mode = modeOf wrap }) (length (now (out .entry)))) (now (right .entry))) ⌝ }
+{
+    let mode = GainMode::from_wrap(wrap);
+    let w = level::level(
+        file,
+        left,
+        right,
+        GainSteps(left_steps),
+        GainSteps(right_steps),
+        mode,
+        out,
+    );
+    put_answer(w, written, peaks)
+}
 
 // Every gain moved back by the stored undo, and the file without the eight keys written to the front of `out`, its length into `written` and the
 // number of its peak items into `peaks`. Refusals 1, 7, 8, 10 and 5.
@@ -28,17 +74,7 @@ pub extern "C" fn zib_undo(
     ensures { λ r. ⌜ (r ≡ levelFace (levelAnswer (undoPlan (now (file .entry)) (now (left .entry)) (now (right .entry)) (length (now (out .entry))))) (now (written .entry)) (now (peaks .entry)) .reply) × (now (written .exit) ≡ levelFace (levelAnswer (undoPlan (now (file .entry)) (now (left .entry)) (now (right .entry)) (length (now (out .entry))))) (now (written .entry)) (now (peaks .entry)) .written) × (now (peaks .exit) ≡ levelFace (levelAnswer (undoPlan (now (file .entry)) (now (left .entry)) (now (right .entry)) (length (now (out .entry))))) (now (written .entry)) (now (peaks .entry)) .peaks) × (now (out .exit) ≡ over (levelBytes (undoPlan (now (file .entry)) (now (left .entry)) (now (right .entry)) (length (now (out .entry))))) (now (out .entry))) × (now (left .exit) ≡ leftAfter (undoPlan (now (file .entry)) (now (left .entry)) (now (right .entry)) (length (now (out .entry)))) (now (left .entry))) × (now (right .exit) ≡ rightAfter (undoPlan (now (file .entry)) (now (left .entry)) (now (right .entry)) (length (now (out .entry)))) (now (right .entry))) ⌝ }
 {
     let w = undo::undo(file, left, right, out);
-    match w {
-        LevelAnswer::Done {
-            length: n,
-            peaks: p,
-        } => {
-            *written = n;
-            *peaks = p;
-            0
-        }
-        LevelAnswer::Refused(r) => replies::number(r),
-    }
+    put_answer(w, written, peaks)
 }
 
 // The area after so many steps, under W if `wrap`: written to the front of `out`, how many items it has into `items`, and its length into
