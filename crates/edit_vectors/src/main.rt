@@ -1,5 +1,8 @@
-// Replays the recorded answers for crates edit and level.
+// Replays the recorded answers for crates edit, level and area_shift.
 use ape_write::Written;
+use area_edit::Edited;
+use frame::GainMode;
+use frame::GainSteps;
 use level::LevelAnswer;
 use vectors::Tally;
 
@@ -91,6 +94,59 @@ fn undo(text: &[u8], at: usize) -> bool {
     )
 }
 
+// Whether a shift answers the three words from this place: the reply, the area and the count of its items, 0 where it is refused.
+fn shifted(
+    text: &[u8],
+    at: usize,
+    area: &[u8],
+    count: usize,
+    steps: GainSteps,
+    mode: GainMode,
+    out: &mut [u8],
+) -> bool {
+    let e = area_shift::shift_stored_gain(area, count, steps, mode, out);
+    let w = match e {
+        Edited::Done { count: _, length } => Written::Done(length),
+        Edited::Refused(reason) => Written::Refused(reason),
+    };
+    if !answered(text, at, w, out) {
+        return false;
+    }
+    let n = match e {
+        Edited::Done {
+            count: items,
+            length: _,
+        } => items,
+        Edited::Refused(_) => 0,
+    };
+    let count_at = vectors::next_word(text, vectors::next_word(text, at));
+    vectors::unsigned(text, count_at) == n as u64
+}
+
+// `shift AREA COUNT STEPS FLAG ROOM REPLY AREA COUNT`.
+fn shift(text: &[u8], at: usize) -> bool {
+    let mut area = [0u8; 2048];
+    let n = vectors::hex_bytes(text, at, &mut area);
+    let count_at = vectors::next_word(text, at);
+    let steps_at = vectors::next_word(text, count_at);
+    let flag_at = vectors::next_word(text, steps_at);
+    let room_at = vectors::next_word(text, flag_at);
+    let room = vectors::unsigned(text, room_at) as usize;
+    let mut out = [0u8; 4096];
+    if out.len() < room {
+        return false;
+    }
+    shifted(
+        text,
+        vectors::next_word(text, room_at),
+        &area[0..n],
+        vectors::unsigned(text, count_at) as usize,
+        GainSteps(vectors::signed(text, steps_at)),
+        GainMode::from_wrap(lists::starts_with(text, flag_at, b"W")),
+        &mut out[0..room],
+    )
+}
+
 // Whether the answer in the line at this place is the library's.
 fn agrees(text: &[u8], at: usize) -> bool {
     let from = vectors::next_word(text, at);
@@ -102,6 +158,9 @@ fn agrees(text: &[u8], at: usize) -> bool {
     }
     if lists::starts_with(text, at, b"undo ") {
         return undo(text, from);
+    }
+    if lists::starts_with(text, at, b"shift ") {
+        return shift(text, from);
     }
     false
 }

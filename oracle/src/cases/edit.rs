@@ -1,10 +1,10 @@
-//! Crates `edit` and `level`: set and remove on a file, and undo on a file and its gains.
+//! Crates `edit` and `level`: set and remove on a file, and undo on a file and its gains; with `shift`, the shift of an item area.
 //!
 //! The editing gate and the refusals are not in the published Rust: they are read here a second time from document 01. What an
 //! accepted call does to the tag, the file and the gains is the published Rust's.
 
 use super::ape::{area_of, is_area, item, random_file, tag_of, written};
-use super::Case;
+use super::{shift, Case};
 use crate::ape::{find_ape_footer, parse_undo_values, parse_undo_wrap, reach, read_ape_tag, ApeTag};
 use crate::frame::{adjust_gain_value, read_u32_le, GainMode};
 use crate::tools::{hex, Bench, Compare, Record, Rng};
@@ -385,6 +385,7 @@ fn compare(c: &mut Compare) {
     assert_eq!(library::undo(&file, &mut [], &mut [], &mut out), Err(1));
     assert_eq!(library::set_ape_item(&file[..LIMIT - 75], b"AB", b"c", &mut out), Err(5));
     assert_eq!(library::set_ape_item(&file[..LIMIT - 76], b"AB", b"c", &mut out), Ok(LIMIT));
+    shift::compare(c);
 }
 
 fn record(r: &mut Record) {
@@ -412,6 +413,7 @@ fn record(r: &mut Record) {
             r.line(&[start, end].concat());
         }
     }
+    shift::record(r);
 }
 
 fn bench(b: &mut Bench) {
@@ -451,4 +453,5 @@ fn bench(b: &mut Bench) {
             || library::undo(&file, &mut l, &mut r, &mut out),
         );
     }
+    shift::bench(b);
 }

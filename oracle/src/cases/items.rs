@@ -229,7 +229,7 @@ fn is_key(key: &[u8]) -> bool {
 }
 
 /// The keys and values of a good area.
-fn parts(area: &[u8], count: usize) -> Vec<(&[u8], &[u8])> {
+pub fn parts(area: &[u8], count: usize) -> Vec<(&[u8], &[u8])> {
     let mut rest = area;
     (0..count)
         .map(|_| {
@@ -243,7 +243,7 @@ fn parts(area: &[u8], count: usize) -> Vec<(&[u8], &[u8])> {
 }
 
 /// Whether the keys and values are all UTF-8.
-fn are_utf8(parts: &[(&[u8], &[u8])]) -> bool {
+pub fn are_utf8(parts: &[(&[u8], &[u8])]) -> bool {
     parts.iter().all(|(k, v)| std::str::from_utf8(k).is_ok() && std::str::from_utf8(v).is_ok())
 }
 

@@ -165,7 +165,7 @@ fn fields_are_ascii(text: &[u8], from: usize, count: usize) -> bool {
 }
 
 /// Both fields of a range are within the domain; a text without a comma has none.
-fn is_range_domain(text: &[u8]) -> bool {
+pub fn is_range_domain(text: &[u8]) -> bool {
     text.is_ascii() || !text.contains(&b',')
 }
 
@@ -186,19 +186,19 @@ fn whole(field: &[u8]) -> Option<i128> {
     Some(if minus { -n } else { n })
 }
 
-fn is_i32(n: i128) -> bool {
+pub fn is_i32(n: i128) -> bool {
     i32::try_from(n).is_ok()
 }
 
 /// The numbers of a range that are within i32, each plus the steps.
-fn range_sums(value: &[u8], steps: i32) -> Vec<i128> {
+pub fn range_sums(value: &[u8], steps: i32) -> Vec<i128> {
     let Some(comma) = value.iter().position(|&b| b == b',') else { return vec![] };
     let numbers = [whole(&value[..comma]), whole(&value[comma + 1..])];
     numbers.into_iter().flatten().filter(|&n| is_i32(n)).map(|n| n + steps as i128).collect()
 }
 
 /// A gain text: optional sign, 1 to 4 digits, a point, 6 digits, optionally ` dB`.
-fn is_gain(text: &[u8]) -> bool {
+pub fn is_gain(text: &[u8]) -> bool {
     let text = text.strip_suffix(b" dB").unwrap_or(text);
     let text = if let [b'+' | b'-', rest @ ..] = text { rest } else { text };
     let Some(point) = text.iter().position(|&b| b == b'.') else { return false };
@@ -234,18 +234,22 @@ fn slip_reading(text: &[u8]) -> Result<(i32, i32, bool), u32> {
 
 // ---- both sides
 
-const TRACK_GAIN: &str = "REPLAYGAIN_TRACK_GAIN";
-const MINMAX: &str = "MP3GAIN_MINMAX";
+pub const TRACK_GAIN: &str = "REPLAYGAIN_TRACK_GAIN";
+pub const MINMAX: &str = "MP3GAIN_MINMAX";
 
 fn is_one_of(key: &str, of: &[&str]) -> bool {
     of.iter().any(|k| k.eq_ignore_ascii_case(key))
 }
 
-fn is_gain_key(key: &str) -> bool {
+pub fn is_range_key(key: &str) -> bool {
+    is_one_of(key, &[MINMAX, "MP3GAIN_ALBUM_MINMAX"])
+}
+
+pub fn is_gain_key(key: &str) -> bool {
     is_one_of(key, &[TRACK_GAIN, "REPLAYGAIN_ALBUM_GAIN"])
 }
 
-fn is_peak_key(key: &str) -> bool {
+pub fn is_peak_key(key: &str) -> bool {
     is_one_of(key, &["REPLAYGAIN_TRACK_PEAK", "REPLAYGAIN_ALBUM_PEAK"])
 }
 
@@ -265,7 +269,7 @@ fn published_out(key: &str, value: &[u8], steps: i32) -> Option<bool> {
     is_range_domain(value).then_some(())?;
     let text = std::str::from_utf8(value).ok()?;
     let sums = range_sums(value, steps);
-    if is_one_of(key, &[MINMAX, "MP3GAIN_ALBUM_MINMAX"]) && !sums.iter().all(|&n| is_i32(n)) {
+    if is_range_key(key) && !sums.iter().all(|&n| is_i32(n)) {
         return Some(sums.iter().any(|n| !(0..=255).contains(n)));
     }
     Some(range_wraps_out(key, text, steps))
@@ -368,7 +372,7 @@ fn every(words: &[&str], most: usize, mut f: impl FnMut(&[u8])) {
 
 /// Texts of numbers about every end, and texts that are nearly numbers.
 #[rustfmt::skip]
-const NUMBERS: [&str; 40] = [
+pub const NUMBERS: [&str; 40] = [
     "", "0", "+0", "-0", "5", "+5", "-5", "007", "+003", "-012", "94", "168", "255", "+255", "256",
     "-1", "300", "32767", "32768", "-32768", "2147483647", "+2147483647", "2147483648", "-2147483648",
     "-2147483649", "4294967295", "4294967296", "4294967301", "18446744073709551621", "99999999999999999999999999",
@@ -392,7 +396,7 @@ const FLAGS: [&str; 14] = ["", "W", "w", "N", "n", " W", "w\t", "\x0BW\x0C", "\x
 
 /// Steps about every end.
 #[rustfmt::skip]
-const ENDS: [i32; 26] = [
+pub const ENDS: [i32; 26] = [
     0, 1, -1, 2, -2, 9, -9, 100, -100, 254, 255, 256, 257, -254, -255, -256, -257, 511, -511, 32768,
     -32768, 65536, i32::MIN, i32::MIN + 1, i32::MAX - 1, i32::MAX,
 ];
@@ -401,12 +405,12 @@ fn padded(number: &str, pad: (&str, &str)) -> String {
     format!("{}{number}{}", pad.0, pad.1)
 }
 
-fn any_i32(rng: &mut Rng) -> i32 {
+pub fn any_i32(rng: &mut Rng) -> i32 {
     rng.next() as i32 >> rng.below(32)
 }
 
 /// One or two bytes of a text left out, put in, or changed.
-fn nearly(rng: &mut Rng, text: &[u8]) -> Vec<u8> {
+pub fn nearly(rng: &mut Rng, text: &[u8]) -> Vec<u8> {
     let mut text = text.to_vec();
     for _ in 0..1 + rng.below(2) {
         let word = rng.pick(&ALPHABET).as_bytes();
@@ -423,13 +427,13 @@ fn random_text(rng: &mut Rng) -> Vec<u8> {
 }
 
 /// A gain text of so many millionths, whose point stands behind at least `digits` digits.
-fn gain_text(sign: &str, millionths: u64, digits: usize, unit: bool) -> String {
+pub fn gain_text(sign: &str, millionths: u64, digits: usize, unit: bool) -> String {
     let (whole, part) = (millionths / 1_000_000, millionths % 1_000_000);
     format!("{sign}{whole:0digits$}.{part:06}{}", if unit { " dB" } else { "" })
 }
 
 /// Every spelling of a gain.
-fn spellings(millionths: i64, mut f: impl FnMut(&str)) {
+pub fn spellings(millionths: i64, mut f: impl FnMut(&str)) {
     let signs: &[&str] = match millionths {
         0 => &["", "+", "-"],
         1.. => &["", "+"],
@@ -445,7 +449,7 @@ fn spellings(millionths: i64, mut f: impl FnMut(&str)) {
 }
 
 /// The keys in every kind of spelling, and keys that are nearly one of them.
-fn keys() -> Vec<String> {
+pub fn keys() -> Vec<String> {
     let mut keys =
         vec!["".to_string(), "MP3GAIN".to_string(), "Title".to_string(), "MP3GAIN\u{5F}MINMA\u{130}".to_string()];
     for key in MP3GAIN_VALUE_KEYS {
@@ -578,7 +582,7 @@ fn compare_ranges(c: &mut Compare) {
 }
 
 /// A step in -255..255, each in its turn.
-fn turn(i: u64) -> i32 {
+pub fn turn(i: u64) -> i32 {
     (i % 511) as i32 - 255
 }
 
