@@ -265,7 +265,7 @@ fn write_gains<'a>(
     requires { ⌜ (isSome (parse count (now area)) ≡ true) × (length (areaBytes (setEach (present (now «track_gain» ∷ now «track_peak» ∷ now «album_gain» ∷ now «album_peak» ∷ now algorithm ∷ [])) (itemsIn count (now area)))) ≤ length (now out)) × (length (areaBytes (setEach (present (now «track_gain» ∷ now «track_peak» ∷ now «album_gain» ∷ now «album_peak» ∷ now algorithm ∷ [])) (itemsIn count (now area)))) ≤ fileLimit) ⌝ }
     ensures { λ r. ⌜ (r .count ≡ length (setEach (present (now («track_gain» .entry) ∷ now («track_peak» .entry) ∷ now («album_gain» .entry) ∷ now («album_peak» .entry) ∷ now (algorithm .entry) ∷ [])) (itemsIn count (now (area .entry))))) × (r .length ≡ length (areaBytes (setEach (present (now («track_gain» .entry) ∷ now («track_peak» .entry) ∷ now («album_gain» .entry) ∷ now («album_peak» .entry) ∷ now (algorithm .entry) ∷ [])) (itemsIn count (now (area .entry)))))) × (now (out .exit) ≡ over (areaBytes (setEach (present (now («track_gain» .entry) ∷ now («track_peak» .entry) ∷ now («album_gain» .entry) ∷ now («album_peak» .entry) ∷ now (algorithm .entry) ∷ [])) (itemsIn count (now (area .entry))))) (now (out .entry))) ⌝ }
 {
-    let mut todo = to_set(track_gain, track_peak, album_gain, album_peak, algorithm);
+    let mut to_write = to_set(track_gain, track_peak, album_gain, album_peak, algorithm);
     let mut at = 0;
     let mut left = count;
     let mut o = 0;
@@ -283,8 +283,8 @@ fn write_gains<'a>(
         };
         left -= 1;
         let i = place(&area[key_start..key_end]);
-        if waits(todo, i) {
-            todo[i] = false;
+        if waits(to_write, i) {
+            to_write[i] = false;
             let value = text(i, track_gain, track_peak, album_gain, album_peak, algorithm);
             o = area_edit::put_changed(out, o, area, at, key_end, value);
         } else {
@@ -295,7 +295,7 @@ fn write_gains<'a>(
     put_rest(
         out,
         Measure { count, length: o },
-        todo,
+        to_write,
         track_gain,
         track_peak,
         album_gain,
