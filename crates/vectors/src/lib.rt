@@ -4,7 +4,7 @@
 // list shows as a difference.
 ghost use mathlib.Core.Path.{_≡_};
 ghost use Prim.Native.Nat.{_+_, _*_, _%_, _^_, _≤_, _<_};
-ghost use lib.ListN.{length, take, drop, getD, replicate};
+ghost use lib.ListN.{length, take, drop, replicate};
 ghost use Rattle.lists.specs.Bytes.{same};
 ghost use Rattle.lists.specs.Write.{over};
 ghost use Rattle.vectors.specs.Lines as L;
