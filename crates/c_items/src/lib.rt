@@ -174,8 +174,7 @@ pub extern "C" fn zib_drop_undone(
 ) -> u32
     ensures { λ r. ⌜ (r ≡ editedFace (answer (dropPlan isUndone count (now (area .entry)) (length (now (out .entry))))) (now (items .entry)) (now (written .entry)) .reply) × (now (items .exit) ≡ editedFace (answer (dropPlan isUndone count (now (area .entry)) (length (now (out .entry))))) (now (items .entry)) (now (written .entry)) .items) × (now (written .exit) ≡ editedFace (answer (dropPlan isUndone count (now (area .entry)) (length (now (out .entry))))) (now (items .entry)) (now (written .entry)) .written) × (now (out .exit) ≡ over (bytes (dropPlan isUndone count (now (area .entry)) (length (now (out .entry))))) (now (out .entry))) ⌝ }
 {
-    let e = area_edit::drop_undone(area, count, out);
-    edited(e, items, written)
+    edited(area_edit::drop_undone(area, count, out), items, written)
 }
 
 // The area without the eight keys of mp3gain. Refusals 12 and 5.
@@ -189,8 +188,7 @@ pub extern "C" fn zib_take_mp3gain(
 ) -> u32
     ensures { λ r. ⌜ (r ≡ editedFace (answer (dropPlan isMp3gainKey count (now (area .entry)) (length (now (out .entry))))) (now (items .entry)) (now (written .entry)) .reply) × (now (items .exit) ≡ editedFace (answer (dropPlan isMp3gainKey count (now (area .entry)) (length (now (out .entry))))) (now (items .entry)) (now (written .entry)) .items) × (now (written .exit) ≡ editedFace (answer (dropPlan isMp3gainKey count (now (area .entry)) (length (now (out .entry))))) (now (items .entry)) (now (written .entry)) .written) × (now (out .exit) ≡ over (bytes (dropPlan isMp3gainKey count (now (area .entry)) (length (now (out .entry))))) (now (out .entry))) ⌝ }
 {
-    let e = area_edit::take_mp3gain(area, count, out);
-    edited(e, items, written)
+    edited(area_edit::take_mp3gain(area, count, out), items, written)
 }
 
 // The area with an undo text of these numbers and this flag. Refusals 12 and 5.

@@ -1,7 +1,7 @@
 // Replays the recorded answers of Rust's standard library for crate utf8.
 ghost use Prim.Native.Nat.{_≤_};
 use utf8::Converted;
-use vectors::Tally;
+use vectors::Replay;
 
 // `utf8 TEXT BOOL`.
 fn well_formed(text: &[u8], at: usize) -> bool {
@@ -72,20 +72,12 @@ fn agrees(text: &[u8], at: usize) -> bool {
     false
 }
 
-fn replay(text: &[u8]) -> Tally {
-    let mut answers: u64 = 0;
-    let mut differ: u64 = 0;
-    let mut at = 0;
-    while at < text.len() {
-        if vectors::is_answer(text, at) {
-            answers = std::num::wrapping_add_u64(answers, 1);
-            if !agrees(text, at) {
-                differ = std::num::wrapping_add_u64(differ, 1);
-            }
-        }
-        at = vectors::next_line(text, at);
+fn replay(text: &[u8]) -> Replay {
+    let mut r = vectors::start(text);
+    while r.at < text.len() {
+        r = vectors::counted(text, r, agrees(text, r.at));
     }
-    Tally { answers, differ }
+    r
 }
 
 fn main() {

@@ -4,16 +4,14 @@ use decimal::Text;
 use frame::GainMode;
 use frame::GainSteps;
 use slip::Slip;
-use vectors::Tally;
+use vectors::Replay;
 
 // Whether the word at this place is the hex of the first `len` bytes.
 fn is_hex(text: &[u8], at: usize, bytes: &[u8], len: usize) -> bool {
-    let mut wanted = [0u8; 64];
-    let n = vectors::hex_bytes(text, at, &mut wanted);
     if bytes.len() < len {
         return false;
     }
-    lists::equal(&wanted[0..n], &bytes[0..len])
+    vectors::is_hex(text, at, &bytes[0..len])
 }
 
 // Whether the word at this place is the hex of this text.
@@ -188,20 +186,12 @@ fn agrees(text: &[u8], at: usize) -> bool {
     false
 }
 
-fn replay(text: &[u8]) -> Tally {
-    let mut answers: u64 = 0;
-    let mut differ: u64 = 0;
-    let mut at = 0;
-    while at < text.len() {
-        if vectors::is_answer(text, at) {
-            answers = std::num::wrapping_add_u64(answers, 1);
-            if !agrees(text, at) {
-                differ = std::num::wrapping_add_u64(differ, 1);
-            }
-        }
-        at = vectors::next_line(text, at);
+fn replay(text: &[u8]) -> Replay {
+    let mut r = vectors::start(text);
+    while r.at < text.len() {
+        r = vectors::counted(text, r, agrees(text, r.at));
     }
-    Tally { answers, differ }
+    r
 }
 
 fn main() {

@@ -3,188 +3,248 @@
 // Each function takes the whole text and a place in it, and is total: a word of another form gives some number, so that a damaged
 // list shows as a difference.
 ghost use mathlib.Core.Path.{_≡_};
-ghost use Prim.Native.Nat.{_≤_, _<_};
-ghost use lib.ListN.{length};
+ghost use Prim.Native.Nat.{_+_, _*_, _%_, _^_, _≤_, _<_};
+ghost use lib.ListN.{length, take, drop, replicate};
+ghost use Rattle.lists.specs.Bytes.{same};
+ghost use Rattle.lists.specs.Write.{over};
+ghost use Rattle.vectors.specs.Lines as L;
+ghost use Rattle.vectors.specs.Words as W;
 
-// How many answers were replayed, and how many of them differ.
-pub struct Tally {
-    pub answers: u64,
-    pub differ: u64,
+// A replay on its way: the place of the next answer, how many were replayed, and how many of them differ.
+pub struct Replay {
+    pub at: usize,
+    pub answers: u32,
+    pub differ: u32,
 }
 
-// Whether the line at this place holds an answer.
-pub fn is_answer(text: &[u8], at: usize) -> bool {
-    if at < text.len() {
-        return text[at] != b'#';
-    }
-    false
-}
-
-// The place behind the first `end` from here, or the end of the text: further on, and within the text.
+// The place behind the first `end` from here, or the end of the text.
 fn behind(text: &[u8], at: usize, end: u8) -> usize
-    requires { ⌜ at < length (now text) ⌝ }
-    ensures { λ r. ⌜ (at < r) × (r ≤ length (now (text .entry))) ⌝ }
+    ensures { λ r. ⌜ r ≡ L.behind end (now (text .entry)) at ⌝ }
 {
+    let e = lists::find_byte(text, at, end);
+    if e < text.len() {
+        return e + 1;
+    }
+    text.len()
+}
+
+// The word behind this one.
+pub fn next_word(text: &[u8], at: usize) -> usize
+    ensures { λ r. ⌜ r ≡ L.behind 32 (now (text .entry)) at ⌝ }
+{
+    behind(text, at, b' ')
+}
+
+// The first line from here that is no comment.
+fn answer_from(text: &[u8], at: usize) -> usize
+    ensures { λ r. ⌜ r ≡ L.answerFrom (now (text .entry)) at ⌝ }
+{
+    let mut within = false;
     let mut i = at;
     while i < text.len() {
-        if text[i] == end {
-            return i + 1;
+        let b = text[i];
+        if within {
+            within = b != b'\n';
+        } else {
+            if b != b'#' {
+                return i;
+            }
+            within = true;
         }
         i += 1;
     }
     i
 }
 
-pub fn next_line(text: &[u8], at: usize) -> usize
-    requires { ⌜ at < length (now text) ⌝ }
-    ensures { λ r. ⌜ (at < r) × (r ≤ length (now (text .entry))) ⌝ }
+// Before the first answer.
+pub fn start(text: &[u8]) -> Replay
+    ensures { λ r. ⌜ r ≡ L.started (now (text .entry)) ⌝ }
 {
-    behind(text, at, b'\n')
-}
-
-// The word behind this one.
-pub fn next_word(text: &[u8], at: usize) -> usize
-    ensures { λ r. ⌜ at ≤ r ⌝ }
-{
-    if at < text.len() {
-        return behind(text, at, b' ');
+    Replay {
+        at: answer_from(text, 0),
+        answers: 0,
+        differ: 0,
     }
-    at
 }
 
-// The value of a hex digit, or 16.
-fn hex_digit(b: u8) -> u8
-    ensures { λ r. ⌜ r ≤ 16 ⌝ }
+// One more answer was replayed: on to the next.
+pub fn counted(text: &[u8], r: Replay, agrees: bool) -> Replay
+    ensures { λ n. ⌜ (n ≡ L.counted (now (text .entry)) r agrees) × (r .at < length (now (text .entry)) → r .at < n .at) ⌝ }
+{
+    let at = answer_from(text, behind(text, r.at, b'\n'));
+    let answers = std::num::wrapping_add_u32(r.answers, 1);
+    if agrees {
+        return Replay {
+            at,
+            answers,
+            differ: r.differ,
+        };
+    }
+    Replay {
+        at,
+        answers,
+        differ: std::num::wrapping_add_u32(r.differ, 1),
+    }
+}
+
+// The value of a hex digit, or 256.
+fn hex_digit(b: u8) -> u32
+    ensures { λ r. ⌜ (r ≡ W.digit b) × (r ≤ 256) ⌝ }
 {
     if b < b'0' {
-        return 16;
+        return 256;
     }
     if b <= b'9' {
-        return b - b'0';
+        return (b - b'0') as u32;
     }
     if b < b'a' {
-        return 16;
+        return 256;
     }
     if b <= b'f' {
-        return b - b'a' + 10;
+        return (b - b'a' + 10) as u32;
     }
-    16
+    256
 }
 
-// The digits at this place as a number, up to the first other byte; of a longer number the last thirteen.
-pub fn unsigned(text: &[u8], at: usize) -> u64 {
+// The digits of this base at this place as a number, up to the first other byte, modulo `top` times the base.
+fn digits(text: &[u8], at: usize, base: u64, top: u64) -> u64
+    requires { ⌜ (0 < base) × (0 < top) × (top * base ≤ 2 ^ 64) ⌝ }
+    ensures { λ r. ⌜ r ≡ W.number base 0 (drop at (now (text .entry))) % (top * base) ⌝ }
+{
     let mut n: u64 = 0;
     let mut i = at;
     while i < text.len() {
         let d = hex_digit(text[i]) as u64;
-        if 9 < d {
+        if base <= d {
             return n;
         }
-        n = n % 1_000_000_000_000 * 10 + d;
+        n = n % top * base + d;
         i += 1;
     }
     n
 }
 
-// The same with an optional `-` in front, within i32.
-pub fn signed(text: &[u8], at: usize) -> i32 {
-    let minus = lists::starts_with(text, at, b"-");
-    let mut from = at;
-    if minus {
-        from = next_byte(text, at);
+// A decimal number, by its last 19 digits.
+pub fn unsigned(text: &[u8], at: usize) -> u64
+    ensures { λ r. ⌜ r ≡ W.unsignedOf (drop at (now (text .entry))) ⌝ }
+{
+    digits(text, at, 10, 1_000_000_000_000_000_000)
+}
+
+// A hex number, by its last 16 digits.
+pub fn hex64(text: &[u8], at: usize) -> u64
+    ensures { λ r. ⌜ r ≡ W.number 16 0 (drop at (now (text .entry))) % 2 ^ 64 ⌝ }
+{
+    digits(text, at, 16, 0x1000_0000_0000_0000)
+}
+
+// A decimal number that may have a `-` in front.
+pub fn signed(text: &[u8], at: usize) -> i32
+    ensures { λ r. ⌜ r ≡ W.signedOf (drop at (now (text .entry))) ⌝ }
+{
+    if text.len() <= at {
+        return 0;
     }
-    let n = unsigned(text, from);
-    if minus {
+    if text[at] == b'-' {
+        let n = unsigned(text, at + 1);
         if n == 0 {
             return 0;
         }
-        if n - 1 < 2_147_483_648 {
-            let by = (n - 1) as u32;
-            return integers::together(integers::Apart { down: true, by });
-        }
-        return 0;
+        let by = ((n - 1) % 2147483648) as u32;
+        return integers::together(integers::Apart { down: true, by });
     }
-    if n < 2_147_483_648 {
-        return n as i32;
-    }
-    0
+    let by = (unsigned(text, at) % 2147483648) as u32;
+    integers::together(integers::Apart { down: false, by })
 }
 
-fn next_byte(text: &[u8], at: usize) -> usize {
-    if at < text.len() {
-        return at + 1;
+// The byte whose two hex digits stand at this place, or more than 255.
+fn hex_byte(text: &[u8], at: usize) -> u32
+    ensures { λ r. ⌜ r ≡ W.hexByte (drop at (now (text .entry))) ⌝ }
+{
+    if text.len() < 2 {
+        return 256;
     }
-    at
+    if text.len() - 2 < at {
+        return 256;
+    }
+    hex_digit(text[at]) * 16 + hex_digit(text[at + 1])
 }
 
-// Sixteen hex digits as a number of 64 bits; fewer where another byte ends them.
-pub fn hex64(text: &[u8], at: usize) -> u64 {
-    let mut n: u64 = 0;
-    let mut i = at;
-    while i < text.len() {
-        let d = hex_digit(text[i]) as u64;
-        if 15 < d {
-            return n;
-        }
-        n = n % 0x1000_0000_0000_0000 * 16 + d;
-        i += 1;
-    }
-    n
-}
-
-// The bytes of a word of hex digits, as many as fit into `out`.
+// Puts the bytes of a word of hex digits at the front of `out`, as many as fit, and answers how many.
 pub fn hex_bytes(text: &[u8], at: usize, out: &mut [u8]) -> usize
-    ensures { λ r. ⌜ r ≤ length (now (out .entry)) ⌝ }
+    ensures { λ r. ⌜ (r ≡ length (take (length (now (out .entry))) (W.hexBytes (drop at (now (text .entry)))))) × (now (out .exit) ≡ over (take (length (now (out .entry))) (W.hexBytes (drop at (now (text .entry))))) (now (out .entry))) × (r ≤ length (now (out .entry))) ⌝ }
 {
     let mut i = at;
     let mut n = 0;
     while n < out.len() {
-        if text.len() < 2 {
+        let b = hex_byte(text, i);
+        if 255 < b {
             return n;
         }
-        if text.len() - 2 < i {
-            return n;
-        }
-        let high = hex_digit(text[i]);
-        let low = hex_digit(text[i + 1]);
-        if 15 < high {
-            return n;
-        }
-        if 15 < low {
-            return n;
-        }
-        out[n] = high * 16 + low;
+        out[n] = b as u8;
         n += 1;
         i += 2;
     }
     n
 }
 
+// Whether the word at this place is the hex of these bytes.
+pub fn is_hex(text: &[u8], at: usize, bytes: &[u8]) -> bool
+    ensures { λ r. ⌜ r ≡ same (W.hexBytes (drop at (now (text .entry)))) (now (bytes .entry)) ⌝ }
+{
+    let mut i = at;
+    let mut n = 0;
+    while n < bytes.len() {
+        let b = hex_byte(text, i);
+        if b != bytes[n] as u32 {
+            return false;
+        }
+        n += 1;
+        i += 2;
+    }
+    255 < hex_byte(text, i)
+}
+
 // One more byte of a digest (FNV-1a, 64 bits).
-pub fn digest(h: u64, b: u8) -> u64 {
+pub fn digest(h: u64, b: u8) -> u64
+    ensures { λ r. ⌜ r ≡ W.digestOf h b ⌝ }
+{
     let x = h ^ (b as u64);
     // The prime is 2^40 + 435.
     std::num::wrapping_add_u64(x % 0x100_0000 * 0x100_0000_0000, times_435(x))
 }
 
 // 435 times x, modulo 2^64.
-fn times_435(x: u64) -> u64 {
+fn times_435(x: u64) -> u64
+    ensures { λ r. ⌜ r ≡ x * 435 % 2 ^ 64 ⌝ }
+{
     let low = x % 0x1_0000_0000 * 435;
     let high = x / 0x1_0000_0000 * 435 % 0x1_0000_0000 * 0x1_0000_0000;
     std::num::wrapping_add_u64(low, high)
 }
 
 // Room for a whole list.
-pub fn buffer() -> [u8; 1048576] {
+pub fn buffer() -> [u8; 1048576]
+    ensures { λ r. ⌜ r ≡ replicate 1048576 0 ⌝ }
+{
     [0u8; 1048576]
 }
 
+// Puts the line of a replay, without its name, at the front of `out`, and answers its length.
+pub fn line(r: Replay, out: &mut [u8; 40]) -> usize
+    ensures { λ n. ⌜ (n ≡ length (L.lineOf r)) × (now (out .exit) ≡ over (L.lineOf r) (now (out .entry))) × (n ≤ length (now (out .exit))) ⌝ }
+{
+    let a = decimal::put_decimal(out, 0, r.answers, 1, 10, 10);
+    let b = lists::put(out, a, b" answers, ");
+    let c = decimal::put_decimal(out, b, r.differ, 1, 10, 10);
+    lists::put(out, c, b" differ\n")
+}
+
 // Writes what a replay found, in one line.
-pub fn report(name: &[u8], t: Tally) {
+pub fn report(name: &[u8], r: Replay) {
+    let mut out = [0u8; 40];
+    let n = line(r, &mut out);
     io::write_all(1, name);
     io::write_all(1, b": ");
-    io::print_decimal(1, t.answers);
-    io::write_all(1, b" answers, ");
-    io::print_decimal(1, t.differ);
-    io::write_all(1, b" differ\n");
+    io::write_all(1, &out[0..n]);
 }

@@ -1,0 +1,4 @@
+pub mod Comments
+pub mod Numbers
+pub mod Signs
+pub mod Hex
