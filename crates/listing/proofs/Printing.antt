@@ -1,5 +1,5 @@
 -- Laws of printed bytes: how long they are, and the loop that writes them.
-use Prim.Native.Nat.{ℕ, _+_, _-_, _*_, _≤_, _<_}
+use Prim.Native.Nat.{ℕ, suc, _+_, _-_, _*_, _≤_, _<_}
 use native.Mathlib.Omega.{arith}
 use native.Mathlib.Numerals.{add-one}
 use mathlib.Core.Path.{_≡_, refl, sym, ap, _∙_}
@@ -40,9 +40,10 @@ module _ {key : Bool} {s out₀ out : List ℕ} {at i o : ℕ} (x : Printing key
   more-same : i < length s → printedAll key s ≡ (x .done ++ printed key (getD s i 0)) ++ printedAll key (drop (i + 1) s)
   unfolding printedAll
   more-same h =
+      rw add-one (
       x .same
-      ∙ ap (λ (r : List ℕ). x .done ++ printedAll key r) (drop-cons s i 0 h ∙ rw (add-one))
-      ∙ sym (append-assoc (x .done) (printed key (getD s i 0)) (printedAll key (drop (i + 1) s)))
+      ∙ ap (λ (r : List ℕ). x .done ++ printedAll key r) (drop-cons s i 0 h)
+      ∙ sym (append-assoc (x .done) (printed key (getD s i 0)) (printedAll key (drop (suc i) s))))
 
   pub print-more : i < length s → (o′ : ℕ) (out′ : List ℕ) → length out′ ≡ length out
       → (o′ ≡ o + length (printed key (getD s i 0))) × (out′ ≡ splice out o (printed key (getD s i 0))) → Printing key s out₀ at out′ (i + 1) o′

@@ -33,7 +33,7 @@ printedAll key (b ∷ s) = printed key b ++ printedAll key s
 
 -- `key=value` and LF
 unfoldable pub line : Item → List ℕ
-line t = printedAll true (t .key) ++ (0x3D ∷ (printedAll false (t .value) ++ (0x0A ∷ [])))
+line t = ((printedAll true (t .key) ++ (0x3D ∷ [])) ++ printedAll false (t .value)) ++ (0x0A ∷ [])
 
 -- a line for each item
 unfoldable pub lines : List Item → List ℕ
@@ -43,7 +43,7 @@ lines (t ∷ ts) = line t ++ lines ts
 -- the number of items that were read, and their lines
 unfoldable pub listed : Option (List Item) → List ℕ
 listed none = ascii "items=none" ++ (0x0A ∷ [])
-listed (some ts) = ascii "items=" ++ (decimal 1 9 (length ts) ++ (0x0A ∷ lines ts))
+listed (some ts) = ((ascii "items=" ++ decimal 1 9 (length ts)) ++ (0x0A ∷ [])) ++ lines ts
 
 -- the longest file that is listed
 abbrev pub listLimit : ℕ

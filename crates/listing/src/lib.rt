@@ -124,6 +124,13 @@ fn put_listed(out: &mut [u8], area: &[u8], count: usize) -> usize
     put_lines(out, c, area, count)
 }
 
+// Room for the items of any file that is listed: three times its bytes.
+fn scratch() -> [u8; 49152]
+    ensures { λ r. ⌜ 49152 ≡ length r ⌝ }
+{
+    [0u8; 49152]
+}
+
 // Lists the tag of a file: `refused=1` for a file that is too long, `items=none` for no tag, else how many items were read and a line for each.
 pub fn list_tag(file: &[u8], text: &mut [u8; 147473]) -> usize
     ensures { λ r. ⌜ (r ≡ length (L.listing (now (file .entry)))) × (now (text .exit) ≡ over (L.listing (now (file .entry))) (now (text .entry))) ⌝ }
@@ -131,7 +138,7 @@ pub fn list_tag(file: &[u8], text: &mut [u8; 147473]) -> usize
     if LIST_LIMIT < file.len() {
         return lists::put(text, 0, b"refused=1\n");
     }
-    let mut area = [0u8; 49152];
+    let mut area = scratch();
     let t = ape::read_ape_tag(file, &mut area);
     match t {
         TagRead::Items { count, length } => put_listed(text, &area[0..length], count),
