@@ -1,0 +1,4 @@
+pub mod Printing
+pub mod Lining
+pub mod Sane
+pub mod Tags

@@ -1,0 +1,87 @@
+-- What the reading of a file that is short enough to be listed answers: nothing is refused, and the items are read back from their area.
+use Prim.Native.Nat.{ℕ, _+_, _-_, _*_, _≤_, _<_}
+use native.Mathlib.Omega.{arith}
+use mathlib.Core.Path.{_≡_, refl, sym, ap, _∙_}
+use mathlib.Core.Bool.{Bool, true, false, _&&_, cond}
+use mathlib.Core.Option.{Option, none, some}
+use mathlib.Core.List.{List, [], _∷_, _++_}
+use lib.ListN.{length, take}
+use lib.Seq.{take-at}
+use lib.Dec.{leb}
+use borrow.Author.Tests.{le-leb, lt-leb}
+use Rattle.lists.specs.Bytes.{ascii}
+use Rattle.lists.specs.Choice.{found, isSome}
+use Rattle.lists.specs.Write.{over}
+use Rattle.replies.specs.Refusal.{Plan, no, yes}
+use Rattle.replies.specs.declared.Refusal.{Refusal}
+use Rattle.decimal.specs.Writing.{decimal}
+use Rattle.items.specs.Items.{Item, areaBytes, parse, itemsIn}
+use Rattle.items.proofs.Area.{parse-area}
+use Rattle.ape.specs.Tag.{readTag}
+use Rattle.ape.specs.Answers.{readArea, readPlan, readAnswer, readBytes}
+use Rattle.ape.specs.declared.TagRead.{TagRead}
+use Rattle.ape.specs.declared.TagRead.the-variants.{NoTag, Items, Refused}
+use Rattle.listing.specs.Listing.{lines, listed, listing}
+use Rattle.listing.proofs.Sane.{tag-items}
+
+module _ (file : List ℕ) (h : length file ≤ 16384) where
+  area-fits : length (readArea (readTag file)) ≤ 49152
+  area-fits = go (readTag file) refl
+    where
+      go : (o : Option (List Item)) → readTag file ≡ o → length (readArea o) ≤ 49152
+      go none e = omega arith
+      go (some ts) e = omega (arith, tag-items file ts e .1, h)
+
+  pub read-yes : readPlan file 49152 ≡ yes (readTag file)
+  unfolding readPlan
+  read-yes = rw (le-leb (length file) 16777216 (omega (arith, h)), le-leb (length (readArea (readTag file))) 49152 area-fits, le-leb (length (readArea (readTag file))) 16777216 (omega (arith, area-fits)))
+
+  pub short-listing : listing file ≡ listed (readTag file)
+  unfolding listing
+  short-listing = rw (le-leb _ 16384 h)
+
+-- the answer tells what was read
+pub record Read (o : Option (List Item)) (n l : ℕ) : Type 0 where
+  pub items : List Item
+  pub is : o ≡ some items
+  pub counted : n ≡ length items
+  pub long : l ≡ length (areaBytes items)
+
+pub read-items : (o : Option (List Item)) {t : TagRead} {n l : ℕ} → t ≡ readAnswer (yes o) → t ≡ Items n l → Read o n l
+read-items none e f = absurd (let z : _≡_ {A = ℕ} 0 1 = cc in omega arith)
+read-items (some ts) e f = record { items = ts; is = refl; counted = cc; long = cc }
+
+pub read-none : (o : Option (List Item)) {t : TagRead} → t ≡ readAnswer (yes o) → t ≡ NoTag → o ≡ none
+read-none none e f = refl
+read-none (some ts) e f = absurd (let z : _≡_ {A = ℕ} 0 1 = cc in omega arith)
+
+pub read-refused : (o : Option (List Item)) {t : TagRead} {r : Refusal} → t ≡ readAnswer (yes o) → t ≡ Refused r → ⊥
+read-refused none e f = let z : _≡_ {A = ℕ} 0 1 = cc in absurd (omega arith)
+read-refused (some ts) e f = let z : _≡_ {A = ℕ} 0 1 = cc in absurd (omega arith)
+
+-- the items stand at the front of the array
+pub read-back : (file : List ℕ) → length file ≤ 16384 → {n l : ℕ} (x : Read (readTag file) n l) (new old : List ℕ) → new ≡ over (readArea (readTag file)) old
+    → (parse n (take (l - 0) new) ≡ some (x .items)) × (length (take (l - 0) new) ≡ l) × (l ≤ 49152)
+read-back file h {n} {l} x new old e =
+    let f = tag-items file (x .items) (x .is) in
+    let t : take (l - 0) new ≡ areaBytes (x .items) =
+    ap (λ (s : List ℕ). take (l - 0) s) (e ∙ ap (λ o. over (readArea o) old) (x .is)) ∙ take-at (areaBytes (x .items)) _ (l - 0) (omega (arith, x .long)) in (
+      ap (parse n) t ∙ ap (λ (i : ℕ). parse i (areaBytes (x .items))) (x .counted) ∙ parse-area (x .items) (f .0) (omega (arith, f .1, h)),
+      omega (arith, ap length t, x .long),
+      omega (arith, f .1, h, x .long),
+    )
+
+pub back-good : (n : ℕ) (s : List ℕ) {ts : List Item} → parse n s ≡ some ts → (isSome (parse n s) ≡ true) × (itemsIn n s ≡ ts)
+back-good n s e = rw e (refl, refl)
+
+pub long-listing : (file : List ℕ) → 16384 < length file → listing file ≡ 0x72 ∷ 0x65 ∷ 0x66 ∷ 0x75 ∷ 0x73 ∷ 0x65 ∷ 0x64 ∷ 0x3D ∷ 0x31 ∷ 0x0A ∷ []
+unfolding listing
+long-listing file h = rw (lt-leb _ 16384 h)
+
+pub items-listing : (ts : List Item) (n : ℕ) → length ts ≡ n → listed (some ts) ≡ ((ascii "items=" ++ decimal 1 9 n) ++ (0x0A ∷ [])) ++ lines ts
+unfolding listed
+items-listing ts n e = rw e
+
+pub none-listing : listed none ≡ 0x69 ∷ 0x74 ∷ 0x65 ∷ 0x6D ∷ 0x73 ∷ 0x3D ∷ 0x6E ∷ 0x6F ∷ 0x6E ∷ 0x65 ∷ 0x0A ∷ []
+unfolding listed
+none-listing = refl
