@@ -6,6 +6,7 @@ mod ape;
 mod edit;
 mod frame;
 mod items;
+mod level;
 mod shift;
 mod utf8;
 mod values;

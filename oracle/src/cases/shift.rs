@@ -55,6 +55,34 @@ mod library {
 /// The count of the new items and their area, or the refusal.
 type Shifted = Result<(usize, Vec<u8>), u32>;
 
+/// The tag that the published call leaves; none outside the domain.
+pub fn shifted(tag: &ApeTag, steps: i32, wrap: bool) -> Option<ApeTag> {
+    let mut items = Vec::new();
+    for (i, found) in tag.items.iter().enumerate() {
+        let (key, value) = (found.key(), found.value().as_bytes());
+        if is_range_key(key) {
+            is_range_domain(value).then_some(())?;
+            if wrap && !range_sums(value, steps).into_iter().all(is_i32) {
+                continue;
+            }
+        }
+        let moves = is_gain_key(key) && is_gain(value);
+        if moves && !(-255..=255).contains(&steps) {
+            return None;
+        }
+        let stays = is_peak_key(key) || is_gain_key(key) && !moves || key.starts_with('\u{1}');
+        items.push(if stays { item(&format!("\u{1}{i}"), "") } else { found.clone() });
+    }
+    let mut new = tag_of(items);
+    new.shift_stored_gain(steps, wrap);
+    for found in &mut new.items {
+        if let Some(i) = found.key().strip_prefix('\u{1}') {
+            *found = tag.items[i.parse::<usize>().unwrap()].clone();
+        }
+    }
+    Some(new)
+}
+
 /// The published answer; none outside the domain.
 fn published(area: &[u8], count: usize, steps: i32, wrap: bool) -> Option<Shifted> {
     if !is_area(area, count) {
@@ -63,30 +91,8 @@ fn published(area: &[u8], count: usize, steps: i32, wrap: bool) -> Option<Shifte
     let parts = parts(area, count);
     are_utf8(&parts).then_some(())?;
     let text = |bytes: &[u8]| String::from_utf8(bytes.to_vec()).unwrap();
-    let mut items = Vec::new();
-    for (i, (key, value)) in parts.iter().enumerate() {
-        let key = text(key);
-        if is_range_key(&key) {
-            is_range_domain(value).then_some(())?;
-            if wrap && !range_sums(value, steps).into_iter().all(is_i32) {
-                continue;
-            }
-        }
-        let moves = is_gain_key(&key) && is_gain(value);
-        if moves && !(-255..=255).contains(&steps) {
-            return None;
-        }
-        let stays = is_peak_key(&key) || is_gain_key(&key) && !moves;
-        items.push(item(&if stays { format!("\u{1}{i}") } else { key }, &text(value)));
-    }
-    let mut tag = tag_of(items);
-    tag.shift_stored_gain(steps, wrap);
-    for found in &mut tag.items {
-        if let Some(i) = found.key().strip_prefix('\u{1}').and_then(|i| i.parse::<usize>().ok()) {
-            *found = item(&text(parts[i].0), found.value());
-        }
-    }
-    Some(Ok((tag.len(), area_of(&tag))))
+    let tag = tag_of(parts.iter().map(|(key, value)| item(&text(key), &text(value))).collect());
+    shifted(&tag, steps, wrap).map(|new| Ok((new.len(), area_of(&new))))
 }
 
 /// The library's answer: with ample room, exact room, one byte less and no room at all.
@@ -116,7 +122,7 @@ fn both(c: &mut Compare, area: &[u8], count: usize, steps: i32, wrap: bool) {
     c.bytes(&what, area, theirs, |s| theirs(s).map(|_| ours(s, count, steps, wrap)));
 }
 
-fn flag(wrap: bool) -> &'static str {
+pub fn flag(wrap: bool) -> &'static str {
     if wrap {
         "W"
     } else {
@@ -144,7 +150,7 @@ const VALUES: [&str; 24] = [
 ];
 
 /// An item area with a value of each kind, duplicates in another case among them.
-fn full_tag() -> ApeTag {
+pub fn full_tag() -> ApeTag {
     let values = ["+003,-012,W", "010,200", "5,250", "-6.510300 dB", "0.988553", "1.000000", "0.900000", "EBU R128"];
     let mut items: Vec<_> = MP3GAIN_VALUE_KEYS.iter().zip(values).map(|(k, v)| item(k, v)).collect();
     items.insert(1, item("Title", "094,168"));
@@ -154,7 +160,7 @@ fn full_tag() -> ApeTag {
     tag_of(items)
 }
 
-fn some_tag(rng: &mut Rng) -> ApeTag {
+pub fn some_tag(rng: &mut Rng) -> ApeTag {
     let n = if rng.below(40) == 0 { 200 } else { rng.below(7) };
     let mut items = Vec::new();
     for _ in 0..n {
