@@ -1,8 +1,8 @@
 //! Crate `area_shift`: the stored values of an item area after so many steps, beside the published `ApeTag::shift_stored_gain`.
 //!
-//! Compared where document 01 compares: keys and values of UTF-8, range fields of ASCII, gain texts by at most 255 steps. Peaks and gain
-//! texts of another form stay as found, so the published call gets them under a key that it does not know. Where a sum of a range passes
-//! i32 the Rust panics or wraps, as it was built: there the exact sum decides.
+//! Compared where document 01 compares: keys and values of UTF-8, range fields of ASCII. Peaks and gain texts of another form stay as found,
+//! so the published call gets them under a key that it does not know. Where a sum of a range passes i32 the Rust panics or wraps, as it was
+//! built: there the exact sum decides. A step outside -255..255 is refused, which the Rust does not do.
 
 use super::ape::{area_of, is_area, item, tag_of, written};
 use super::items::{are_utf8, parts};
@@ -55,7 +55,7 @@ mod library {
 /// The count of the new items and their area, or the refusal.
 type Shifted = Result<(usize, Vec<u8>), u32>;
 
-/// The tag that the published call leaves; none outside the domain.
+/// The tag that the published call leaves by a step in -255..255; none outside the domain.
 pub fn shifted(tag: &ApeTag, steps: i32, wrap: bool) -> Option<ApeTag> {
     let mut items = Vec::new();
     for (i, found) in tag.items.iter().enumerate() {
@@ -67,9 +67,6 @@ pub fn shifted(tag: &ApeTag, steps: i32, wrap: bool) -> Option<ApeTag> {
             }
         }
         let moves = is_gain_key(key) && is_gain(value);
-        if moves && !(-255..=255).contains(&steps) {
-            return None;
-        }
         let stays = is_peak_key(key) || is_gain_key(key) && !moves || key.starts_with('\u{1}');
         items.push(if stays { item(&format!("\u{1}{i}"), "") } else { found.clone() });
     }
@@ -88,6 +85,9 @@ fn published(area: &[u8], count: usize, steps: i32, wrap: bool) -> Option<Shifte
     if !is_area(area, count) {
         return Some(Err(12));
     }
+    if !(-255..=255).contains(&steps) {
+        return Some(Err(2));
+    }
     let parts = parts(area, count);
     are_utf8(&parts).then_some(())?;
     let text = |bytes: &[u8]| String::from_utf8(bytes.to_vec()).unwrap();
@@ -104,11 +104,13 @@ fn ours(area: &[u8], count: usize, steps: i32, wrap: bool) -> Shifted {
             length
         })
     };
-    let bytes = written(area.len() + 32 * count.min(area.len()), call)?;
-    if !bytes.is_empty() {
-        assert_eq!(call(&mut []), Err(5), "no room");
+    let answer = written(area.len() + 32 * count.min(area.len()), call);
+    match &answer {
+        Ok(bytes) if bytes.is_empty() => (),
+        Ok(_) => assert_eq!(call(&mut []), Err(5), "no room"),
+        Err(reason) => assert_eq!(call(&mut []), Err(*reason), "refused, and otherwise without room"),
     }
-    Ok((items.get(), bytes))
+    answer.map(|bytes| (items.get(), bytes))
 }
 
 fn both(c: &mut Compare, area: &[u8], count: usize, steps: i32, wrap: bool) {
@@ -210,7 +212,7 @@ pub fn compare(c: &mut Compare) {
         }
     }
     // Every step: ranges about every end, and gain texts that come to zero or nearly.
-    for steps in -600..=600 {
+    for steps in -260..=260 {
         for n in 0..=255 {
             one(c, MINMAX, &format_minmax(n, 255 - n / 2), steps);
         }
@@ -230,6 +232,7 @@ pub fn compare(c: &mut Compare) {
     for wrap in [false, true] {
         for n in [0, 1, count - 1, count + 1, 1 << 32, usize::MAX] {
             both(c, &area, n, 7, wrap);
+            both(c, &area, n, 256, wrap);
         }
         for at in 0..area.len() {
             for n in [0, count - 1, count] {
@@ -309,6 +312,8 @@ pub fn record(r: &mut Record) {
         line(r, &full, count, 6, wrap, exact.len() - 1);
         line(r, &full, count - 1, 5, wrap, 4096);
         line(r, &full[1..], count, 5, wrap, 0);
+        line(r, &full[1..], count, 256, wrap, 0);
+        line(r, &full, count, -256, wrap, 0);
         line(r, &[], 0, 5, wrap, 0);
     }
     for i in 0..40 {
