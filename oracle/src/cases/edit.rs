@@ -446,6 +446,7 @@ fn record(r: &mut Record) {
         }
     }
     shift::record(r);
+    level::record(r);
 }
 
 fn bench(b: &mut Bench) {

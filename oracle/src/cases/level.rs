@@ -8,7 +8,7 @@ use super::edit::{around, finish, gate, in_domain, in_rooms, moved, Levelled, LI
 use super::shift::{flag, full_tag, shifted, some_tag};
 use super::values::{any_i32, is_peak_key, nearly, turn, ENDS, FLAGS, MINMAX, NUMBERS, TRACK_GAIN};
 use crate::ape::{accumulate_undo, parse_undo_wrap, reach, UNDONE_KEYS};
-use crate::tools::{Compare, Rng};
+use crate::tools::{hex, Compare, Record, Rng};
 
 /// The exported function, as Rust, and a safe wrapper. A refusal is `Err` with its number.
 pub mod library {
@@ -172,9 +172,9 @@ pub fn some_gains(rng: &mut Rng, most: usize) -> Vec<u8> {
 }
 
 /// A file that every test of level but the named ones passes, where the flag is N, the left gains are there and the steps are small.
-/// 8: version 1000. 9: the stored flag is W. 11: a stored number at its end. 6: 256 items of which none is level's own.
+/// 8: version 1000. 9: the stored flag is W. 11: a stored number at its end. 6: 256 items, and MINMAX to come.
 fn refused_by(eight: bool, nine: bool, eleven: bool, six: bool) -> Vec<u8> {
-    let mut items: Vec<_> = (0..if six { 255 } else { 2 }).map(|i| item(&format!("KEY_{i}"), "v")).collect();
+    let mut items: Vec<_> = (0..if six { 255 } else { 2 }).map(|i| item(&format!("{i:02X}"), "")).collect();
     items.push(item(UNDO, &format!("{},+000,{}", if eleven { "+32767" } else { "+003" }, flag(nine))));
     let mut file = reach::replace(b"audio", &tag_of(items));
     if eight {
@@ -298,4 +298,60 @@ pub fn compare(c: &mut Compare) {
     both(c, &file, &[], right, by(256, 2, false));
     let many = reach::serialize(&tag_of((0..256).map(|i| item(&format!("KEY_{i}"), "v")).collect()));
     both(c, &[&file[..LIMIT - many.len()], &many].concat(), left, right, by(1, 2, false));
+}
+
+/// `level FILE LEFT RIGHT STEPS STEPS FLAG ROOM REPLY FILE LEFT RIGHT PEAKS`
+pub fn record(r: &mut Record) {
+    let line = |r: &mut Record, file: &[u8], left: &[u8], right: &[u8], by: Level, room: usize| {
+        let Some(answer) = published(file, left, right, by) else { return };
+        let answer = answer.and_then(|a| if a.file.len() > room { Err(5) } else { Ok(a) });
+        let (reply, gives) = answer.map_or_else(
+            |n| (n, Levelled { file: vec![], left: left.to_vec(), right: right.to_vec(), peaks: 0 }),
+            |a| (0, a),
+        );
+        let lent: [&dyn ToString; 4] = [&"level", &hex(file), &hex(left), &hex(right)];
+        let asked: [&dyn ToString; 4] = [&by.left, &by.right, &flag(by.wrap), &room];
+        let after: [&dyn ToString; 5] =
+            [&reply, &hex(&gives.file), &hex(&gives.left), &hex(&gives.right), &gives.peaks];
+        r.line(&lent.iter().chain(&asked).chain(&after).map(|w| w.to_string()).collect::<Vec<_>>());
+    };
+    let (left, right) = (&b"\x0A\x00\xFC\x80"[..], &b"\x07\xFF"[..]);
+    line(r, b"", b"\x0A\x00", b"", by(5, 5, false), 4096);
+    line(r, b"", b"\xFC", b"", by(5, 5, false), 4096);
+    // Each refusal that a short file can have, alone and with the next one; 1 needs a file of more than 16 MiB.
+    for reasons in [0, 1, 2, 4, 8, 16, 32, 48, 17, 3, 6, 12, 63] {
+        let has = |bit: u32| reasons >> bit & 1 == 1;
+        let file = refused_by(has(0), has(1), has(2), has(3));
+        let gains = if has(4) { &[][..] } else { left };
+        line(
+            r,
+            &file,
+            gains,
+            right,
+            by(if has(5) { -256 } else { -1 }, -1, false),
+            if reasons == 63 { 0 } else { 4096 },
+        );
+    }
+    let file = refused_by(false, false, false, false);
+    let need = published(&file, left, right, by(1, 2, false)).unwrap().unwrap().file.len();
+    for room in [0, need - 1, need, need + 1] {
+        line(r, &file, left, right, by(1, 2, false), room);
+    }
+    let full = reach::replace(b"audio", &full_tag());
+    for (x, y) in [(0, 0), (5, 5), (6, 6), (-5, -5), (-6, -6), (255, 255), (-255, -255), (5, 6), (0, 256), (-256, 0)] {
+        for wrap in [false, true] {
+            line(r, &full, left, right, by(x, y, wrap), 4096);
+        }
+    }
+    for _ in 0..160 {
+        let file = loop {
+            let file = some_file(&mut r.rng);
+            if file.len() < 500 {
+                break file;
+            }
+        };
+        let (left, right) = (some_gains(&mut r.rng, 6), some_gains(&mut r.rng, 3));
+        let call = some_level(&mut r.rng, &file);
+        line(r, &file, &left, &right, call, 4096);
+    }
 }
