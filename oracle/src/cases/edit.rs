@@ -486,5 +486,6 @@ fn bench(b: &mut Bench) {
             || library::undo(&file, &mut l, &mut r, &mut out),
         );
     }
+    level::bench(b);
     shift::bench(b);
 }

@@ -7,8 +7,9 @@ use super::ape::{area_of, item, random_file, tag_of};
 use super::edit::{around, finish, gate, in_domain, in_rooms, moved, Levelled, LIMIT};
 use super::shift::{flag, full_tag, shifted, some_tag};
 use super::values::{any_i32, is_peak_key, nearly, turn, ENDS, FLAGS, MINMAX, NUMBERS, TRACK_GAIN};
-use crate::ape::{accumulate_undo, parse_undo_wrap, reach, UNDONE_KEYS};
-use crate::tools::{hex, Compare, Record, Rng};
+use crate::ape::{accumulate_undo, format_undo_value, parse_undo_wrap, reach, read_ape_tag, UNDONE_KEYS};
+use crate::frame::{adjust_gain_value, GainMode};
+use crate::tools::{hex, Bench, Compare, Record, Rng};
 
 /// The exported function, as Rust, and a safe wrapper. A refusal is `Err` with its number.
 pub mod library {
@@ -353,5 +354,44 @@ pub fn record(r: &mut Record) {
         let (left, right) = (some_gains(&mut r.rng, 6), some_gains(&mut r.rng, 3));
         let call = some_level(&mut r.rng, &file);
         line(r, &file, &left, &right, call, 4096);
+    }
+}
+
+pub fn bench(b: &mut Bench) {
+    let value = "The quick brown fox jumps over the lazy dog";
+    for (size, name) in [(4 << 10, "4 KiB"), (1 << 20, "1 MiB"), ((16 << 20) - 8192, "16 MiB")] {
+        for wrap in [false, true] {
+            let mut items: Vec<_> = (0..38).map(|i| item(&format!("KEY_{i:03}"), value)).collect();
+            items.push(item(UNDO, &format_undo_value(3, -2, wrap)));
+            items.push(item(MINMAX, "094,168"));
+            items.push(item(TRACK_GAIN, "-3.500000 dB"));
+            let file = reach::replace(&vec![0x55; size], &tag_of(items));
+            let mut out = vec![0; file.len() + 300];
+            let (mut left, mut right) = (vec![100u8; 5_000], vec![100u8; 5_000]);
+            let (mut l, mut r) = (left.clone(), right.clone());
+            b.row(
+                &format!(
+                    "level on a file of {name}, 41 items, 10,000 gains, {} (Rust: read, accumulate, shift, adjust, set, replace; no gate)",
+                    flag(wrap)
+                ),
+                || {
+                    let mut tag = read_ape_tag(&file).unwrap();
+                    let (x, y) = accumulate_undo(tag.get(UNDO), (1, 1));
+                    tag.shift_stored_gain(1, wrap);
+                    let (mut least, mut greatest) = (255, 0);
+                    for gains in [&mut left, &mut right] {
+                        for g in gains.iter_mut() {
+                            *g = adjust_gain_value(*g, 1, GainMode::from_wrap(wrap));
+                            least = least.min(*g);
+                            greatest = greatest.max(*g);
+                        }
+                    }
+                    tag.set_undo_gain(x, y, wrap);
+                    tag.set_minmax(least, greatest);
+                    reach::replace(&file, &tag)
+                },
+                || library::level(&file, &mut l, &mut r, by(1, 1, wrap), &mut out),
+            );
+        }
     }
 }

@@ -96,7 +96,7 @@ fn room_of(call: &Call) -> usize {
     }
 }
 
-/// How often a list did what.
+/// What the lists that met the terms did.
 #[derive(Default)]
 struct Seen {
     lists: u64,
@@ -119,7 +119,7 @@ fn check(first: &State, calls: &[Call], seen: &mut Seen) -> Result<(), String> {
     let want = |b: bool, what: &str| if b { Ok(()) } else { Err(what.to_string()) };
     let mut book = Book::of(&first.file).unwrap();
     let mut s = first.clone();
-    let (mut levels, mut edits, mut wrapped) = (0, Vec::new(), true);
+    let (mut levels, mut edits, mut refused, mut wrapped) = (0, Vec::new(), [0; 14], true);
     let mut landed = [vec![true; s.left.len()], vec![true; s.right.len()]];
     for call in calls {
         let answer = reading(&s, call).and_then(|a| if a.file.len() > room_of(call) { Err(5) } else { Ok(a) });
@@ -127,7 +127,7 @@ fn check(first: &State, calls: &[Call], seen: &mut Seen) -> Result<(), String> {
         let done = match answer {
             Ok(done) => done,
             Err(n) => {
-                seen.refused[n as usize] += 1;
+                refused[n as usize] += 1;
                 continue;
             }
         };
@@ -166,6 +166,7 @@ fn check(first: &State, calls: &[Call], seen: &mut Seen) -> Result<(), String> {
     seen.lists += 1;
     seen.levels += levels;
     seen.edits += edits.len() as u64;
+    seen.refused.iter_mut().zip(refused).for_each(|(all, n)| *all += n);
     Ok(())
 }
 
@@ -269,7 +270,9 @@ fn some_call(rng: &mut Rng, manner: &Manner) -> Call {
 /// A list of calls, each with ample room, with what it needs or with a byte or more too few, and the first gains.
 fn some_list(rng: &mut Rng) -> (State, Vec<Call>) {
     let most = if rng.below(100) == 0 { 40 } else { 5 };
-    let (left, right) = (some_gains(rng, most), some_gains(rng, most));
+    // Without left gains no level call is accepted.
+    let (mut left, right) = (some_gains(rng, most), some_gains(rng, most));
+    left.push(rng.next() as u8);
     let first = State { file: settled_file(rng), left, right };
     let manner = Manner { wrap: rng.below(2) == 0, far: rng.pick(&[3, 3, 20, 100, 255]) };
     // Only many far steps pass an undo number's limit.
