@@ -19,33 +19,44 @@ use Rattle.items.proofs.Area.{length-item, area-length, area-items, count-items
 use Rattle.items.proofs.Located.{located, unlocated, at-not, nowhere-not}
 use Rattle.items.proofs.Places.{Split, split, around, length-around, set-bytes, set-length, set-count, Absent, absent, append-bytes, append-length, append-count}
 use Rattle.items.proofs.Finding.{There, there}
-use Rattle.area_edit.specs.Edits.{isMalformed, replaced, appended}
+use Rattle.area_edit.specs.Edits.{isMalformed, changed, fresh, replaced, appended}
+
+-- an item that stands in s behind f, written with another value
+pub changed-item : (s f b : List ℕ) (t : Item) (value : List ℕ) (a k : ℕ) → s ≡ f ++ (itemBytes t ++ b) → a ≡ length f → k ≡ a + 8 + length (t .key)
+    → changed s a k value ≡ itemBytes (record { key = t .key; value = value })
+unfolding changed itemBytes
+changed-item s f b t value a k e start key-end =
+    let n = u32le (length (t .value)) in
+    let m = u32le 0 ++ (t .key ++ (0 ∷ [])) in
+    let r : s ≡ (f ++ n) ++ (m ++ (t .value ++ b)) = e ∙ simp append-assoc in
+    let p : part (a + 4) (k + 1) s ≡ m = ap (part (a + 4) (k + 1)) r ∙ part-is (f ++ n) m _ (a + 4) (k + 1) (simp length-append (omega arith)) (simp length-append (omega arith)) in
+    rw p (simp append-assoc)
+
+pub fresh-item : (key value : List ℕ) → fresh key value ≡ itemBytes (record { key = upperAll key; value = value })
+unfolding fresh itemBytes
+fresh-item key value = simp append-assoc
 
 module _ {key : List ℕ} {ts : List Item} {a k e : ℕ} (x : Split key 0 ts a k e) (value : List ℕ) where
   -- the bytes around the old value stay
   set-replaced : replaced (areaBytes ts) a k e value ≡ areaBytes (setItem key value ts)
-  unfolding replaced itemBytes
+  unfolding replaced
   set-replaced =
       let s = areaBytes ts in
       let f = areaBytes (x .front) in
       let b = areaBytes (x .back) in
-      let v = x .item .value in
-      let n = u32le (length v) in
-      let m = u32le 0 ++ (x .item .key ++ (0 ∷ [])) in
       let one : s ≡ [] ++ (f ++ (itemBytes (x .item) ++ b)) = around x in
-      let two : s ≡ (f ++ n) ++ (m ++ (v ++ b)) = around x ∙ simp append-assoc in
-      let three : s ≡ (f ++ itemBytes (x .item)) ++ (b ++ []) = around x ∙ simp (append-assoc, append-nil) in
+      let two : s ≡ (f ++ itemBytes (x .item)) ++ (b ++ []) = around x ∙ simp (append-assoc, append-nil) in
       let p1 : part 0 a s ≡ f = ap (part 0 a) one ∙ part-is [] f _ 0 a refl (omega (arith, x .start)) in
-      let p2 : part (a + 4) (k + 1) s ≡ m = ap (part (a + 4) (k + 1)) two ∙ part-is (f ++ n) m _ (a + 4) (k + 1) (simp length-append (omega (arith, x .start))) (simp length-append (omega (arith, x .start, x .key-end))) in
+      let p2 = changed-item s f b (x .item) value a k (around x) (omega (arith, x .start)) (x .key-end) in
       let p3 : part e (length s) s ≡ b =
-      ap (part e (length s)) three ∙ part-is (f ++ itemBytes (x .item)) b [] e (length s) (rw (length-append, length-item) (omega (arith, x .start, x .end)))
+      ap (part e (length s)) two ∙ part-is (f ++ itemBytes (x .item)) b [] e (length s) (rw (length-append, length-item) (omega (arith, x .start, x .end)))
       (rw (length-append, length-append, length-item) (sym (length-around x))) in
       rw (p1, p2, p3) (simp append-assoc) ∙ sym (set-bytes x value)
 
 module _ {key : List ℕ} {ts : List Item} (x : Absent key ts) (value : List ℕ) where
   set-appended : appended (areaBytes ts) key value ≡ areaBytes (setItem key value ts)
-  unfolding appended itemBytes
-  set-appended = simp append-assoc (sym (append-bytes x value))
+  unfolding appended
+  set-appended = ap (λ (l : List ℕ). areaBytes ts ++ l) (fresh-item key value) ∙ sym (append-bytes x value)
 
 -- ---- what set does to an area, by where the key stands
 

@@ -74,10 +74,18 @@ isMalformed BadArea = true
 
 -- ---- the bytes that set writes
 
+-- the item of s from a, whose key ends at k, with another value
+unfoldable pub changed : List ℕ → ℕ → ℕ → List ℕ → List ℕ
+changed s a k value = (u32le (length value) ++ part (a + 4) (k + 1) s) ++ value
+
+-- an item, its key in upper case
+unfoldable pub fresh : List ℕ → List ℕ → List ℕ
+fresh key value = (((u32le (length value) ++ u32le 0) ++ upperAll key) ++ (0 ∷ [])) ++ value
+
 -- s with another value in the item from a to e, whose key ends at k
 unfoldable pub replaced : List ℕ → ℕ → ℕ → ℕ → List ℕ → List ℕ
-replaced s a k e value = (((part 0 a s ++ u32le (length value)) ++ part (a + 4) (k + 1) s) ++ value) ++ part e (length s) s
+replaced s a k e value = (part 0 a s ++ changed s a k value) ++ part e (length s) s
 
 -- s with one more item behind it
 unfoldable pub appended : List ℕ → List ℕ → List ℕ → List ℕ
-appended s key value = ((((s ++ u32le (length value)) ++ u32le 0) ++ upperAll key) ++ (0 ∷ [])) ++ value
+appended s key value = s ++ fresh key value

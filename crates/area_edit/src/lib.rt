@@ -5,12 +5,12 @@ ghost use mathlib.Core.List.{[]};
 ghost use Prim.Native.Nat.{_≤_, _<_, _+_, _-_};
 ghost use lib.ListN.{length};
 ghost use Rattle.lists.specs.Choice.{isSome};
-ghost use Rattle.lists.specs.Write.{over};
+ghost use Rattle.lists.specs.Write.{over, splice};
 ghost use Rattle.replies.specs.Limits.{fileLimit};
 ghost use Rattle.keys.specs.Keys.{isMp3gainKey, isUndone, isReplayGain};
 ghost use Rattle.items.specs.Items.{areaBytes, parse, itemsIn, setItem, without};
 ghost use Rattle.items.specs.Answers.{locateOf};
-ghost use Rattle.area_edit.specs.Edits.{dropped, measuredOf, answer, bytes, setPlan, removePlan, dropPlan, isMalformed, replaced, appended};
+ghost use Rattle.area_edit.specs.Edits.{dropped, measuredOf, answer, bytes, setPlan, removePlan, dropPlan, isMalformed, changed, fresh, replaced, appended};
 use items::Place;
 use items::Stepped;
 use replies::Refusal;
@@ -217,6 +217,35 @@ pub fn measure_set(area: &[u8], count: usize, key: &[u8], value: &[u8], p: Place
     }
 }
 
+// Writes the item that begins at `start`, and whose key ends at `stop`, with another value into `out` from `at`.
+pub fn put_changed(
+    out: &mut [u8],
+    at: usize,
+    area: &[u8],
+    start: usize,
+    stop: usize,
+    value: &[u8],
+) -> usize
+    requires { ⌜ (start + 8 ≤ stop) × (stop < length (now area)) × (length (now value) ≤ fileLimit) × (at + (stop + 1 - start) + length (now value) ≤ length (now out)) ⌝ }
+    ensures { λ r. ⌜ (r ≡ at + length (changed (now (area .entry)) start stop (now (value .entry)))) × (now (out .exit) ≡ splice (now (out .entry)) at (changed (now (area .entry)) start stop (now (value .entry)))) × (r ≡ at + (stop + 1 - start) + length (now (value .entry))) ⌝ }
+{
+    let a = lists::put_u32_le(out, at, value.len() as u32);
+    let b = lists::put_part(out, a, area, start + 4, stop + 1);
+    lists::put(out, b, value)
+}
+
+// Writes an item, its key in upper case, into `out` from `at`.
+pub fn put_item(out: &mut [u8], at: usize, key: &[u8], value: &[u8]) -> usize
+    requires { ⌜ (length (now value) ≤ fileLimit) × (at + 9 + length (now key) + length (now value) ≤ length (now out)) ⌝ }
+    ensures { λ r. ⌜ (r ≡ at + length (fresh (now (key .entry)) (now (value .entry)))) × (now (out .exit) ≡ splice (now (out .entry)) at (fresh (now (key .entry)) (now (value .entry)))) ⌝ }
+{
+    let a = lists::put_u32_le(out, at, value.len() as u32);
+    let b = lists::put_u32_le(out, a, 0);
+    let c = keys::put_upper(out, b, key);
+    let d = lists::put(out, c, b"\0");
+    lists::put(out, d, value)
+}
+
 // Writes the area with another value in the item from `start` to `end`, whose key ends at `stop`, to the front of `out`.
 fn put_replaced(
     area: &[u8],
@@ -230,10 +259,8 @@ fn put_replaced(
     ensures { λ r. ⌜ (r ≡ length (replaced (now (area .entry)) start stop end (now (value .entry)))) × (now (out .exit) ≡ over (replaced (now (area .entry)) start stop end (now (value .entry))) (now (out .entry))) ⌝ }
 {
     let a = lists::put_part(out, 0, area, 0, start);
-    let b = lists::put_u32_le(out, a, value.len() as u32);
-    let c = lists::put_part(out, b, area, start + 4, stop + 1);
-    let d = lists::put(out, c, value);
-    lists::put_part(out, d, area, end, area.len())
+    let b = put_changed(out, a, area, start, stop, value);
+    lists::put_part(out, b, area, end, area.len())
 }
 
 // Writes the area with one more item behind it, its key in upper case, to the front of `out`.
@@ -242,11 +269,7 @@ fn put_appended(area: &[u8], key: &[u8], value: &[u8], out: &mut [u8]) -> usize
     ensures { λ r. ⌜ (r ≡ length (appended (now (area .entry)) (now (key .entry)) (now (value .entry)))) × (now (out .exit) ≡ over (appended (now (area .entry)) (now (key .entry)) (now (value .entry))) (now (out .entry))) ⌝ }
 {
     let a = lists::put(out, 0, area);
-    let b = lists::put_u32_le(out, a, value.len() as u32);
-    let c = lists::put_u32_le(out, b, 0);
-    let d = keys::put_upper(out, c, key);
-    let e = lists::put(out, d, b"\0");
-    lists::put(out, e, value)
+    put_item(out, a, key, value)
 }
 
 // Writes what set makes of a well-formed area to the front of `out`, and answers what `measure_set` does.

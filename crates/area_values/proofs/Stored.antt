@@ -6,10 +6,11 @@ use mathlib.Core.Bool.{Bool, true, false}
 use mathlib.Core.Option.{Option, none, some}
 use mathlib.Core.List.{List}
 use lib.ListN.{take, drop}
-use Rattle.lists.specs.Bytes.{Small, all, same}
+use Rattle.lists.specs.Bytes.{Small}
 use Rattle.lists.specs.Choice.{isSome}
 use Rattle.replies.specs.declared.Refusal.the-variants.{MalformedArea}
-use Rattle.keys.specs.Keys.{undoKey, isKey, isReserved, whichOf, sameKey, upperAll, upper}
+use Rattle.keys.specs.Keys.{undoKey}
+use Rattle.keys.proofs.Keys.{undo-keys}
 use Rattle.values.specs.Undo.{parseUndo}
 use Rattle.items.specs.Items.{parse, itemsIn, getItem}
 use Rattle.items.specs.Answers.{locateOf, foundAt, findOf, valueOf}
@@ -33,10 +34,6 @@ gainFrom s (NotFound r) = Refused r
 pub from-value : (s : List ℕ) (f : Found) (a m : ℕ) → f ≡ Value a m → Steps (parseUndo (valueOf s f) .left) ≡ gainFrom s f
 from-value s f a m e = rw e
 
-good : isKey undoKey ≡ true
-unfolding isKey undoKey isReserved whichOf sameKey same upperAll upper all
-good = refl
-
 placed : (s : List ℕ) (p : Place) → gainFrom s (foundAt p) ≡ stepsOf (got s (foundAt p))
 placed s (At a k e) = refl
 placed s Nowhere = refl
@@ -53,6 +50,6 @@ module _ (s : List ℕ) (n : ℕ) (b : Small s) where
           let g : undoGainOf s n ≡ Refused MalformedArea = rw e in
           ap (gainFrom s) f ∙ sym g
       go true e =
-          let f : findOf s n undoKey ≡ foundAt (locateOf s n undoKey) = rw (e, good) in
+          let f : findOf s n undoKey ≡ foundAt (locateOf s n undoKey) = rw (e, undo-keys .0) in
           let g : undoGainOf s n ≡ stepsOf (getItem undoKey (itemsIn n s)) = rw e in
-          ap (gainFrom s) f ∙ placed s (locateOf s n undoKey) ∙ ap (λ x. stepsOf (got s x)) (sym f) ∙ ap stepsOf (get-is s n undoKey b e good) ∙ sym g
+          ap (gainFrom s) f ∙ placed s (locateOf s n undoKey) ∙ ap (λ x. stepsOf (got s x)) (sym f) ∙ ap stepsOf (get-is s n undoKey b e (undo-keys .0)) ∙ sym g

@@ -1,7 +1,8 @@
-// The faces of crates keys, items, area_edit and area_values.
+// The faces of crates keys, items, area_edit, area_values and area_gains.
 //
 // A call that edits an area writes the new area to the front of `out`, how many items it has into `items`, and its length into `written`.
 ghost use mathlib.Core.Path.{_≡_};
+ghost use mathlib.Core.List.{[], _∷_};
 ghost use lib.ListN.{length};
 ghost use Rattle.lists.specs.Write.{over};
 ghost use Rattle.keys.specs.Keys.{undoKey, minmaxKey, isKey, whichKey, whichIs, isMp3gainKey, isUndone, isReplayGain};
@@ -10,6 +11,7 @@ ghost use Rattle.values.specs.Range.{formatRange};
 ghost use Rattle.items.specs.Answers.{findOf};
 ghost use Rattle.area_edit.specs.Edits.{answer, bytes, setPlan, removePlan, dropPlan};
 ghost use Rattle.area_values.specs.Undo.{undoGainOf};
+ghost use Rattle.area_gains.specs.Gains.{setGainsPlan};
 ghost use Rattle.c_items.specs.ItemsFace.{placeFace, foundFace, gainFace, editedFace};
 use area_edit::Edited;
 use area_values::UndoGain;
@@ -223,5 +225,34 @@ pub extern "C" fn zib_set_minmax(
     ensures { λ r. ⌜ (r ≡ editedFace (answer (setPlan minmaxKey (formatRange (record { least = least; greatest = greatest })) count (now (area .entry)) (length (now (out .entry))))) (now (items .entry)) (now (written .entry)) .reply) × (now (items .exit) ≡ editedFace (answer (setPlan minmaxKey (formatRange (record { least = least; greatest = greatest })) count (now (area .entry)) (length (now (out .entry))))) (now (items .entry)) (now (written .entry)) .items) × (now (written .exit) ≡ editedFace (answer (setPlan minmaxKey (formatRange (record { least = least; greatest = greatest })) count (now (area .entry)) (length (now (out .entry))))) (now (items .entry)) (now (written .entry)) .written) × (now (out .exit) ≡ over (bytes (setPlan minmaxKey (formatRange (record { least = least; greatest = greatest })) count (now (area .entry)) (length (now (out .entry))))) (now (out .entry))) ⌝ }
 {
     let e = area_values::set_minmax(area, count, least, greatest, out);
+    edited(e, items, written)
+}
+
+// The area with each of the texts that is not empty at its REPLAYGAIN key. Refusals 12, 4 and 5.
+#[no_mangle]
+pub extern "C" fn zib_set_replaygain<'a>(
+    area: &[u8],
+    count: usize,
+    track_gain: &'a [u8],
+    track_peak: &'a [u8],
+    album_gain: &'a [u8],
+    album_peak: &'a [u8],
+    algorithm: &'a [u8],
+    out: &mut [u8],
+    items: &mut usize,
+    written: &mut usize,
+) -> u32
+    ensures { λ r. ⌜ (r ≡ editedFace (answer (setGainsPlan (now («track_gain» .entry) ∷ now («track_peak» .entry) ∷ now («album_gain» .entry) ∷ now («album_peak» .entry) ∷ now (algorithm .entry) ∷ []) count (now (area .entry)) (length (now (out .entry))))) (now (items .entry)) (now (written .entry)) .reply) × (now (items .exit) ≡ editedFace (answer (setGainsPlan (now («track_gain» .entry) ∷ now («track_peak» .entry) ∷ now («album_gain» .entry) ∷ now («album_peak» .entry) ∷ now (algorithm .entry) ∷ []) count (now (area .entry)) (length (now (out .entry))))) (now (items .entry)) (now (written .entry)) .items) × (now (written .exit) ≡ editedFace (answer (setGainsPlan (now («track_gain» .entry) ∷ now («track_peak» .entry) ∷ now («album_gain» .entry) ∷ now («album_peak» .entry) ∷ now (algorithm .entry) ∷ []) count (now (area .entry)) (length (now (out .entry))))) (now (items .entry)) (now (written .entry)) .written) × (now (out .exit) ≡ over (bytes (setGainsPlan (now («track_gain» .entry) ∷ now («track_peak» .entry) ∷ now («album_gain» .entry) ∷ now («album_peak» .entry) ∷ now (algorithm .entry) ∷ []) count (now (area .entry)) (length (now (out .entry))))) (now (out .entry))) ⌝ }
+{
+    let e = area_gains::set_replaygain(
+        area,
+        count,
+        track_gain,
+        track_peak,
+        album_gain,
+        album_peak,
+        algorithm,
+        out,
+    );
     edited(e, items, written)
 }

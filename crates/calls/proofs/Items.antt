@@ -192,7 +192,7 @@ module _ (l : Level) (ts : List Item) where
       go true e = rw e (shift-others (l .mode) (l .left) ts)
       go false e = rw e (unfold others in without-less isMp3gainKey isUndone ts undone-eight)
 
-  shifted-sane : AllSane ts → AllSane (shiftedItems l ts)
+  pub shifted-sane : AllSane ts → AllSane (shiftedItems l ts)
   unfolding shiftedItems
   shifted-sane s = go (sameStep (l .left) (l .right)) refl
     where

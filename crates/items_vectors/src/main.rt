@@ -1,4 +1,4 @@
-// Replays the published Rust's recorded answers for crates keys, items, area_edit and area_values.
+// Replays the published Rust's recorded answers for crates keys, items, area_edit, area_values and area_gains.
 //
 // A line is the call, the count of items, their area, what else the call takes, the reply, and, where that is 0, the answer.
 use area_edit::Edited;
@@ -218,6 +218,41 @@ fn set_minmax(text: &[u8], at: usize) -> bool {
     edited(text, vectors::next_word(text, greatest_at), e, &out)
 }
 
+// `set_replaygain COUNT AREA TRACK_GAIN TRACK_PEAK ALBUM_GAIN ALBUM_PEAK ALGORITHM ..`.
+fn set_replaygain(text: &[u8], at: usize) -> bool {
+    let area_at = vectors::next_word(text, at);
+    let mut area = [0u8; 4096];
+    let m = vectors::hex_bytes(text, area_at, &mut area);
+    let count = vectors::unsigned(text, at) as usize;
+    let at0 = vectors::next_word(text, area_at);
+    let mut track_gain = [0u8; 512];
+    let n0 = vectors::hex_bytes(text, at0, &mut track_gain);
+    let at1 = vectors::next_word(text, at0);
+    let mut track_peak = [0u8; 512];
+    let n1 = vectors::hex_bytes(text, at1, &mut track_peak);
+    let at2 = vectors::next_word(text, at1);
+    let mut album_gain = [0u8; 512];
+    let n2 = vectors::hex_bytes(text, at2, &mut album_gain);
+    let at3 = vectors::next_word(text, at2);
+    let mut album_peak = [0u8; 512];
+    let n3 = vectors::hex_bytes(text, at3, &mut album_peak);
+    let at4 = vectors::next_word(text, at3);
+    let mut algorithm = [0u8; 512];
+    let n4 = vectors::hex_bytes(text, at4, &mut algorithm);
+    let mut out = [0u8; 8192];
+    let e = area_gains::set_replaygain(
+        &area[0..m],
+        count,
+        &track_gain[0..n0],
+        &track_peak[0..n1],
+        &album_gain[0..n2],
+        &album_peak[0..n3],
+        &algorithm[0..n4],
+        &mut out,
+    );
+    edited(text, vectors::next_word(text, at4), e, &out)
+}
+
 // Whether the answer in the line at this place is the library's.
 fn agrees(text: &[u8], at: usize) -> bool {
     let from = vectors::next_word(text, at);
@@ -253,6 +288,9 @@ fn agrees(text: &[u8], at: usize) -> bool {
     }
     if lists::starts_with(text, at, b"set_minmax ") {
         return set_minmax(text, from);
+    }
+    if lists::starts_with(text, at, b"set_replaygain ") {
+        return set_replaygain(text, from);
     }
     false
 }

@@ -198,6 +198,11 @@ pub undo-eight : (isMp3gainKey undoKey ≡ true) × (isMp3gainKey minmaxKey ≡ 
 unfolding isFrom whichKey whichOf keys undoKey minmaxKey sameKey same upperAll upper
 undo-eight = (refl, refl)
 
+-- and they are good keys
+pub undo-keys : (isKey undoKey ≡ true) × (isKey minmaxKey ≡ true)
+unfolding isKey undoKey minmaxKey isReserved whichOf sameKey same upperAll upper all
+undo-keys = (refl, refl)
+
 pub undo-stays : (isUndone undoKey ≡ false) × (isUndone minmaxKey ≡ false)
 unfolding isFrom whichKey whichOf keys undoKey minmaxKey sameKey same upperAll upper
 undo-stays = (refl, refl)

@@ -2,15 +2,14 @@
 use Prim.Native.Nat.{ℕ, _+_, _*_, _≤_, _<_}
 use native.Mathlib.Omega.{arith}
 use mathlib.Core.Path.{_≡_, refl, sym, ap, _∙_}
-use mathlib.Core.Bool.{Bool, true, false, cond, true≢false}
+use mathlib.Core.Bool.{Bool, true, false, cond}
 use mathlib.Core.List.{List, [], _∷_}
 use lib.ListN.{length}
 use lib.Dec.{eqb}
 use lib.IntN.{ℤ, pos, negsuc}
 use borrow.Author.Tests.{eq-eqb, ne-eqb}
-use Rattle.lists.specs.Bytes.{all, same}
-use Rattle.keys.specs.Keys.{upper, upperAll, sameKey, whichOf, isReserved, isKey, undoKey, minmaxKey, isUndone}
-use Rattle.frame.specs.declared.GainMode.{GainMode}
+use Rattle.keys.specs.Keys.{undoKey, minmaxKey, isUndone}
+use Rattle.keys.proofs.Keys.{undo-keys}
 use Rattle.values.specs.declared.UndoValues.{UndoValues}
 use Rattle.values.specs.declared.Range.{Range}
 use Rattle.values.specs.Undo.{formatUndo}
@@ -18,10 +17,10 @@ use Rattle.values.specs.Range.{formatRange}
 use Rattle.values.proofs.ReadBack.{length-undo, length-range}
 use Rattle.items.specs.Items.{Item, areaBytes, setItem, without}
 use Rattle.items.proofs.Area.{AllSane}
-use Rattle.items.proofs.ItemLaws.{area-set, area-without, count-without, sane-without, sane-set, sane-key}
-use Rattle.calls.specs.Calls.{Level, sameStep, wraps, shiftItem, shiftStoredGain, shiftedItems}
-use Rattle.area_shift.specs.Shift.{goes}
-use Rattle.area_shift.proofs.Shifting.{shift-goes, shift-stays, shift-none, shift-count, shift-bytes}
+use Rattle.items.proofs.ItemLaws.{area-set, area-without, sane-set, sane-key}
+use Rattle.calls.specs.Calls.{Level, sameStep, wraps, shiftStoredGain, shiftedItems}
+use Rattle.calls.proofs.Items.{shifted-sane}
+use Rattle.area_shift.proofs.Shifting.{shift-bytes}
 use Rattle.level_items.specs.Items.{undoneItems, rangedItems}
 
 -- ---- which way they go
@@ -47,40 +46,13 @@ module _ (l : Level) (ts : List Item) where
 
 -- ---- they can be read back
 
-shift-sane : (m : GainMode) (steps : ℤ) (ts : List Item) → AllSane ts → AllSane (shiftStoredGain m steps ts)
-unfolding shiftItem
-shift-sane m steps [] s = rw (shift-none m steps) tt
-shift-sane m steps (t ∷ ts) (s, r) = go (goes m steps (t .key) (t .value)) refl (shift-sane m steps ts r)
-  where
-    go : (a : Bool) → goes m steps (t .key) (t .value) ≡ a → AllSane (shiftStoredGain m steps ts) → AllSane (shiftStoredGain m steps (t ∷ ts))
-    go true e ih = rw (shift-goes m steps t ts e) ih
-    go false e ih = rw (shift-stays m steps t ts e) (s, ih)
-
-pub moved-sane : (l : Level) (ts : List Item) → AllSane ts → AllSane (shiftedItems l ts)
-unfolding shiftedItems
-moved-sane l ts s = go (sameStep (l .left) (l .right)) refl
-  where
-    go : (a : Bool) → sameStep (l .left) (l .right) ≡ a → AllSane (cond a (shiftStoredGain (l .mode) (l .left) ts) (without isUndone ts))
-    go true e = shift-sane (l .mode) (l .left) ts s
-    go false e = sane-without isUndone ts s
-
--- MP3GAIN_UNDO is a good key
-pub undo-key : isKey undoKey ≡ true
-unfolding isKey undoKey isReserved whichOf sameKey same upperAll upper all
-undo-key = refl
-
 pub undone-sane : (l : Level) (u : UndoValues) (ts : List Item) → AllSane ts → AllSane (undoneItems l u ts)
 unfolding undoneItems
-undone-sane l u ts s = sane-set undoKey (formatUndo (u .left) (u .right) (wraps (l .mode))) (shiftedItems l ts) (sane-key undoKey undo-key) (moved-sane l ts s)
-
--- MP3GAIN_MINMAX is a good key
-minmax-key : isKey minmaxKey ≡ true
-unfolding isKey minmaxKey isReserved whichOf sameKey same upperAll upper all
-minmax-key = refl
+undone-sane l u ts s = sane-set undoKey (formatUndo (u .left) (u .right) (wraps (l .mode))) (shiftedItems l ts) (sane-key undoKey (undo-keys .0)) (shifted-sane l ts s)
 
 pub ranged-sane : (l : Level) (u : UndoValues) (r : Range) (ts : List Item) → AllSane ts → AllSane (rangedItems l u r ts)
 unfolding rangedItems
-ranged-sane l u r ts s = sane-set minmaxKey (formatRange r) (undoneItems l u ts) (sane-key minmaxKey minmax-key) (undone-sane l u ts s)
+ranged-sane l u r ts s = sane-set minmaxKey (formatRange r) (undoneItems l u ts) (sane-key minmaxKey (undo-keys .1)) (undone-sane l u ts s)
 
 -- ---- they are short
 

@@ -1,4 +1,4 @@
-//! Crates `keys`, `items`, `area_edit` and `area_values`: the item area beside the published `ApeTag`.
+//! Crates `keys`, `items`, `area_edit`, `area_values` and `area_gains`: the item area beside the published `ApeTag`.
 
 use super::ape::{self, area_of, is_area, item, tag_of, written};
 use super::Case;
@@ -100,6 +100,25 @@ mod library {
             items: *mut usize,
             written: *mut usize,
         ) -> u32;
+        fn zib_set_replaygain(
+            area: *const u8,
+            length: usize,
+            count: usize,
+            track_gain: *const u8,
+            track_gain_length: usize,
+            track_peak: *const u8,
+            track_peak_length: usize,
+            album_gain: *const u8,
+            album_gain_length: usize,
+            album_peak: *const u8,
+            album_peak_length: usize,
+            algorithm: *const u8,
+            algorithm_length: usize,
+            out: *mut u8,
+            room: usize,
+            items: *mut usize,
+            written: *mut usize,
+        ) -> u32;
     }
 
     pub fn is_key(key: &[u8]) -> bool {
@@ -193,6 +212,15 @@ mod library {
             zib_set_minmax(area.as_ptr(), area.len(), count, least, greatest, out.as_mut_ptr(), out.len(), i, w)
         })
     }
+
+    /// The texts in the order of REPLAYGAIN_KEYS; an empty one is not set.
+    pub fn set_replaygain(area: &[u8], count: usize, texts: [&[u8]; 5], out: &mut [u8]) -> Edited {
+        let [a, b, c, d, e] = texts.map(|t| (t.as_ptr(), t.len()));
+        edited(|i, w| unsafe {
+            let (p, n, o, m) = (area.as_ptr(), area.len(), out.as_mut_ptr(), out.len());
+            zib_set_replaygain(p, n, count, a.0, a.1, b.0, b.1, c.0, c.1, d.0, d.1, e.0, e.1, o, m, i, w)
+        })
+    }
 }
 
 /// A call on an area.
@@ -207,8 +235,8 @@ enum Op {
     GetUndoGain,
     SetUndoGain(i32, i32, bool),
     SetMinmax(u8, u8),
-    /// The five texts, in the order of the source. The library's side is `set` for each that is there.
-    SetReplaygain([Option<String>; 5]),
+    /// The five texts, in the order of the source. An empty one is not set: `None` in the source.
+    SetReplaygain([Vec<u8>; 5]),
 }
 
 /// What a call answers: a value, an area with its count, or a number of steps.
@@ -296,10 +324,13 @@ fn published(area: &[u8], count: usize, op: &Op) -> Result<Answer, u32> {
             return Err(3);
         }
     }
-    if let Op::Set(_, value) = op {
-        if std::str::from_utf8(value).is_err() {
-            return Err(4);
-        }
+    let set = match op {
+        Op::Set(_, value) => std::slice::from_ref(value),
+        Op::SetReplaygain(values) => values,
+        _ => &[],
+    };
+    if set.iter().any(|value| std::str::from_utf8(value).is_err()) {
+        return Err(4);
     }
     let parts = parts(area, count);
     let texts = Texts { utf8: are_utf8(&parts) };
@@ -317,7 +348,7 @@ fn published(area: &[u8], count: usize, op: &Op) -> Result<Answer, u32> {
         Op::SetMinmax(least, greatest) => tag.set_minmax(*least, *greatest),
         Op::SetReplaygain(values) => {
             let [track_gain, track_peak, album_gain, album_peak, algorithm] =
-                values.clone().map(|v| v.map(|v| texts.of(v.as_bytes())));
+                values.clone().map(|v| (!v.is_empty()).then(|| texts.of(&v)));
             tag.set_replaygain(&ApeReplayGain { track_gain, track_peak, album_gain, album_peak, algorithm });
         }
     }
@@ -327,7 +358,11 @@ fn published(area: &[u8], count: usize, op: &Op) -> Result<Answer, u32> {
 /// The library's answer; a call that writes is tried with ample room, exact room, and one byte less.
 fn ours(area: &[u8], count: usize, op: &Op) -> Result<Answer, u32> {
     let items = Cell::new(0);
-    let grown = if let Op::Set(key, value) = op { key.len() + value.len() } else { 0 };
+    let grown = match op {
+        Op::Set(key, value) => key.len() + value.len(),
+        Op::SetReplaygain(values) => values.iter().map(|v| v.len() + 30).sum(),
+        _ => 0,
+    };
     let edit = |call: &dyn Fn(&mut [u8]) -> Result<(usize, usize), u32>| {
         let bytes = written(area.len() + grown + 100, |out| {
             call(out).map(|(n, length)| {
@@ -357,14 +392,7 @@ fn ours(area: &[u8], count: usize, op: &Op) -> Result<Answer, u32> {
         }
         Op::SetMinmax(least, greatest) => edit(&|out| library::set_minmax(area, count, *least, *greatest, out)),
         Op::SetReplaygain(values) => {
-            // A removal of nothing tests the area where no text is there.
-            let mut now = edit(&|out| library::remove(area, count, b"no such key", out))?;
-            for (key, value) in REPLAYGAIN_KEYS.iter().zip(values) {
-                if let (Answer::Area(n, bytes), Some(value)) = (&now, value) {
-                    now = ours(bytes, *n, &Op::Set(key.as_bytes().to_vec(), value.as_bytes().to_vec()))?;
-                }
-            }
-            Ok(now)
+            edit(&|out| library::set_replaygain(area, count, values.each_ref().map(|v| &v[..]), out))
         }
     }
 }
@@ -478,6 +506,32 @@ fn some_op(rng: &mut Rng) -> Op {
     }
 }
 
+/// Five texts: about half are there, nearly all of them UTF-8.
+fn some_gains(rng: &mut Rng) -> [Vec<u8>; 5] {
+    let raw = rng.below(8) == 0;
+    [(); 5].map(|_| match rng.below(2) {
+        0 => vec![],
+        _ if raw => some_value(rng),
+        _ => String::from_utf8_lossy(&some_value(rng)).into_owned().into_bytes(),
+    })
+}
+
+/// An area of a few items, most with a key of REPLAYGAIN_KEYS in any letter case, some of them twice.
+fn some_gain_area(rng: &mut Rng) -> (Vec<u8>, usize) {
+    let items = (0..rng.below(8)).map(|_| {
+        let key: String = match rng.below(6) {
+            0 => "AB".into(),
+            n => REPLAYGAIN_KEYS[n - 1]
+                .chars()
+                .map(|c| if rng.below(8) == 0 { c.to_ascii_lowercase() } else { c })
+                .collect(),
+        };
+        item(&key, &String::from_utf8_lossy(&some_value(rng)))
+    });
+    let tag = tag_of(items.collect());
+    (area_of(&tag), tag.len())
+}
+
 /// One call of each kind, with a key that is there and one that is not.
 fn each_op() -> Vec<Op> {
     let bytes = |text: &str| text.as_bytes().to_vec();
@@ -497,6 +551,8 @@ fn each_op() -> Vec<Op> {
         Op::GetUndoGain,
         Op::SetUndoGain(3, -12, false),
         Op::SetMinmax(0, 255),
+        Op::SetReplaygain(["-3.500000 dB", "", "+1.505150 dB", "0.9", "EBU R128"].map(bytes)),
+        Op::SetReplaygain([bytes("1"), vec![], vec![], vec![], vec![0xFF]]),
     ]
 }
 
@@ -554,9 +610,10 @@ fn compare(c: &mut Compare) {
                 (area, count) = (bytes, n);
             }
         }
-        let values = [(); 5].map(|_| (c.rng.below(2) == 0).then(|| some_value(&mut c.rng)));
-        let values = values.map(|v| v.map(|v| String::from_utf8_lossy(&v).into_owned()));
-        both(c, &area, count, &Op::SetReplaygain(values));
+        let op = Op::SetReplaygain(some_gains(&mut c.rng));
+        both(c, &area, count, &op);
+        let (gains, n) = some_gain_area(&mut c.rng);
+        both(c, &gains, n, &op);
         // The same area damaged.
         let op = some_op(&mut c.rng);
         if !area.is_empty() {
@@ -622,14 +679,25 @@ fn limits(c: &mut Compare) {
     let mut out = vec![0xC3; LIMIT + 1000];
     let big = |length: usize| area_of(&tag_of(vec![item("AB", &"v".repeat(length - 11))]));
     let (most, more) = (big(LIMIT), big(LIMIT + 1));
-    c.inputs += 11;
+    c.inputs += 16;
     assert_eq!(library::get(&more, 1, b"ab").map(|v| v.map(<[u8]>::len)), Ok(Some(LIMIT + 1 - 11)));
     assert_eq!(library::remove(&more, 1, b"CD", &mut out), Err(5));
     assert_eq!(library::set(&most, 1, b"CD", b"", &mut out), Err(5));
     assert_eq!(library::set_minmax(&most, 1, 0, 1, &mut out), Err(5));
     assert_eq!(library::set(&[], 0, b"AB", &more[11..], &mut out), Err(5));
     assert_eq!(library::set(&[], 0, b"AB", &vec![0xFF; LIMIT + 1], &mut out), Err(4));
+    // The smallest item that set_replaygain appends has 30 bytes, and the algorithm's 29.
+    let (text, half) = (vec![b'v'; LIMIT + 1], vec![b'v'; LIMIT / 2]);
+    let none: &[u8] = &[];
+    assert_eq!(library::set_replaygain(&most, 1, [none, none, none, none, b"1"], &mut out), Err(5));
+    assert_eq!(library::set_replaygain(&[], 0, [none, &text, none, none, none], &mut out), Err(5));
+    assert_eq!(library::set_replaygain(&[], 0, [&half, none, &half, none, none], &mut out), Err(5));
+    assert_eq!(library::set_replaygain(&[], 0, [&text[..LIMIT - 29], none, none, none, none], &mut out), Err(5));
     assert!(out.iter().all(|&b| b == 0xC3), "a refused call wrote");
+    assert_eq!(
+        library::set_replaygain(&[], 0, [&text[..LIMIT - 30], none, none, none, none], &mut out),
+        Ok((1, LIMIT))
+    );
     assert_eq!(library::remove(&more, 1, b"ab", &mut out), Ok((0, 0)));
     assert_eq!(library::set(&more, 1, b"ab", b"v", &mut out), Ok((1, 12)));
     assert_eq!(library::remove(&most, 1, b"CD", &mut out), Ok((1, LIMIT)));
@@ -654,7 +722,7 @@ fn record(r: &mut Record) {
                 ("set_undo_gain", vec![left.to_string(), right.to_string(), flag(*wrap)])
             }
             Op::SetMinmax(least, greatest) => ("set_minmax", vec![least.to_string(), greatest.to_string()]),
-            Op::SetReplaygain(_) => return,
+            Op::SetReplaygain(values) => ("set_replaygain", values.iter().map(|v| hex(v)).collect()),
         };
         let answer = match published(area, count, op) {
             Err(n) => vec![n.to_string()],
@@ -709,6 +777,11 @@ fn record(r: &mut Record) {
             }
         }
     }
+    for _ in 0..60 {
+        let (area, count) = some_gain_area(&mut r.rng);
+        let op = Op::SetReplaygain(some_gains(&mut r.rng));
+        line(&area, count, &op, r);
+    }
 }
 
 fn bench(b: &mut Bench) {
@@ -721,7 +794,7 @@ fn bench(b: &mut Bench) {
         let key = last.as_bytes();
         let mut out = vec![0; area.len() + 100];
         let mut read = vec![0; 3 * file.len()];
-        let mut done = vec![0; file.len() + 100];
+        let mut done = vec![0; file.len() + 300];
         b.row(
             &format!("get, the last of {n} items (Rust: a tag already parsed)"),
             || tag.get(&last),
@@ -752,6 +825,33 @@ fn bench(b: &mut Bench) {
                 let (count, length) = ape::library::read_ape_tag(&file, &mut read).unwrap().unwrap();
                 let (count, length) = library::set(&read[..length], count, key, new.as_bytes(), &mut out).unwrap();
                 ape::library::serialize_ape_tag(&out[..length], count, &mut done)
+            },
+        );
+        let gains = ["-3.500000 dB", "0.987650", "+1.505150 dB", "0.999000", "EBU R128"];
+        let [track_gain, track_peak, album_gain, album_peak, algorithm] = gains.map(|text| Some(text.to_string()));
+        let gain = ApeReplayGain { track_gain, track_peak, album_gain, album_peak, algorithm };
+        let texts = gains.map(str::as_bytes);
+        let mut more = vec![0; area.len() + 300];
+        b.row(
+            &format!("set_replaygain, five texts behind {n} items (Rust: a copy of a tag already parsed)"),
+            || {
+                let mut tag = tag.clone();
+                tag.set_replaygain(&gain);
+                tag
+            },
+            || library::set_replaygain(&area, n, texts, &mut more),
+        );
+        b.row(
+            &format!("set_replaygain, five texts behind {n} items (both from a file's bytes to a tag's bytes)"),
+            || {
+                let mut tag = read_ape_tag(&file).unwrap();
+                tag.set_replaygain(&gain);
+                reach::serialize(&tag)
+            },
+            || {
+                let (count, length) = ape::library::read_ape_tag(&file, &mut read).unwrap().unwrap();
+                let (count, length) = library::set_replaygain(&read[..length], count, texts, &mut more).unwrap();
+                ape::library::serialize_ape_tag(&more[..length], count, &mut done)
             },
         );
         b.row(

@@ -587,6 +587,9 @@ pub fn turn(i: u64) -> i32 {
     (i % 511) as i32 - 255
 }
 
+/// How many gain texts have one digit before the point, no sign and no unit.
+const SHORT: u64 = 10_000_000;
+
 fn compare_gains(c: &mut Compare) {
     // Texts of the form and near it: no other is shifted.
     let form = ["0", "1.", "234567", ".", "+", "-", " ", " dB", "dB", "d", "B", "\u{A0}", "9"];
@@ -601,10 +604,21 @@ fn compare_gains(c: &mut Compare) {
             spellings(m, |text| shift(c, "replaygain_album_gain", text.as_bytes(), steps));
         }
     }
-    // The short ones (one digit before the point), in order, the steps in turn.
-    for m in 0..c.count.min(10_000_000) {
-        shift(c, TRACK_GAIN, gain_text("", m, 1, false).as_bytes(), turn(m));
-    }
+    // The short ones (one digit before the point): some thousands at every step; in a run of ten million, all of them at every step.
+    let stride = if c.count < SHORT { SHORT / 4_000 } else { 1 };
+    let threads = std::thread::available_parallelism().map_or(1, |n| n.get() as u64);
+    c.inputs += std::thread::scope(|scope| {
+        let run = |thread: u64| {
+            let mut own = Compare::new(c.name, 0, 0);
+            for m in (thread * stride..SHORT).step_by((threads * stride) as usize) {
+                let text = gain_text("", m + m / stride % stride, 1, false);
+                (-255..=255).for_each(|steps| shift(&mut own, TRACK_GAIN, text.as_bytes(), steps));
+            }
+            own.inputs
+        };
+        let all: Vec<_> = (0..threads).map(|thread| scope.spawn(move || run(thread))).collect();
+        all.into_iter().map(|one| one.join().unwrap()).sum::<u64>()
+    });
     for i in 0..c.count {
         let m = c.rng.next() % 10u64.pow(7 + c.rng.below(4) as u32);
         let (sign, digits) = (c.rng.pick(&["", "+", "-"]), 1 + c.rng.below(4));

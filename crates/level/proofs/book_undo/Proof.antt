@@ -10,11 +10,11 @@ use mir.Val.{SFits}
 use mir.Facts.{toZ-ofZ}
 use Rattle.lists.specs.Choice.{found}
 use Rattle.keys.specs.Keys.{undoKey}
+use Rattle.keys.proofs.Keys.{undo-keys}
 use Rattle.items.specs.Items.{Item, itemsIn}
 use Rattle.items.proofs.Places.{got}
 use Rattle.items.proofs.Finding.{get-is}
 use Rattle.calls.specs.Calls.{Level, storedUndo, agrees, booked, isUndoNumber}
-use Rattle.level_items.proofs.Moved.{undo-key}
 use Rattle.level.proofs.Booking.{flag-found, numbers-found, booked-9, booked-left, booked-right, booked-both}
 use Rattle.level.proofs.book_undo.Statement.{statement}
 use Rattle.level.proofs.book_undo.Tie as tie
@@ -32,7 +32,7 @@ unfolding storedUndo undoKey
 text c =
     let b = c .before .before .before in
     let s = b .args .area .now in
-    ap (got s) (c .find .ensures) ∙ get-is s (b .args .count) undoKey (λ i. omega (arith, c .before .before .shared-slice-known .given i)) (b .pre) undo-key
+    ap (got s) (c .find .ensures) ∙ get-is s (b .args .count) undoKey (λ i. omega (arith, c .before .before .shared-slice-known .given i)) (b .pre) (undo-keys .0)
 
 flag : (c : tie.After-flag-fits) → found (storedUndo (there (c .before .before .before .before))) true (agrees (c .before .before .before .before .args .mode)) ≡ c .flag-fits .result
 flag c = flag-found (c .before .before .before .before .args .area .now) (c .before .find .result) (asked (c .before .before .before .before)) (there (c .before .before .before .before)) (text (c .before)) (c .flag-fits .ensures)

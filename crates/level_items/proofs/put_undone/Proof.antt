@@ -10,9 +10,10 @@ use Rattle.items.specs.Items.{Item, areaBytes, parse, itemsIn}
 use Rattle.items.proofs.Area.{count-items, area-length}
 use Rattle.items.proofs.ItemLaws.{parse-sane}
 use Rattle.calls.specs.Calls.{Level, shiftedItems}
+use Rattle.calls.proofs.Items.{shifted-sane}
 use Rattle.edit.proofs.Rewriting.{read-back, back-good}
 use Rattle.level_items.specs.Items.{undoneItems}
-use Rattle.level_items.proofs.Moved.{moved-sane, moved-short, undone-short}
+use Rattle.level_items.proofs.Moved.{moved-short, undone-short}
 use Rattle.level_items.proofs.put_undone.Statement.{statement}
 use Rattle.level_items.proofs.put_undone.Tie as tie
 
@@ -49,7 +50,7 @@ stands c =
     let b = c .before .before .before .before .before in
     let w = c .put-moved .ensures in
     read-back (shiftedItems (asked b) (there b)) (array c) _ (c .put-moved .result .length) (c .put-moved .result .count) (w .2) (w .1) (w .0)
-    (moved-sane (asked b) (there b) (parse-sane (b .args .count) (b .args .area .now)))
+    (shifted-sane (asked b) (there b) (parse-sane (b .args .count) (b .args .area .now)))
     (omega (arith, moved-short (asked b) (there b) (few b) (small b)))
 
 put-undo-requires : tie.Need-put-undo-requires

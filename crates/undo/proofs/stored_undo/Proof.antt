@@ -10,13 +10,13 @@ use mir.Facts.{toZ-ofZ}
 use borrow.Author.Needs.{needs}
 use borrow.Author.Tests.{not-true, not-false}
 use Rattle.keys.specs.Keys.{undoKey}
+use Rattle.keys.proofs.Keys.{undo-keys}
 use Rattle.items.specs.Items.{itemsIn}
 use Rattle.items.specs.Answers.{valueOf}
 use Rattle.items.proofs.Places.{got}
 use Rattle.items.proofs.Finding.{get-is}
 use Rattle.calls.specs.Calls.{storedUndo}
 use Rattle.undo.specs.Stored.{undoIs}
-use Rattle.level_items.proofs.Moved.{undo-key}
 use Rattle.undo.proofs.Stored.{got-there, got-none}
 use Rattle.undo.proofs.stored_undo.Statement.{statement}
 use Rattle.undo.proofs.stored_undo.Tie as tie
@@ -27,7 +27,7 @@ unfolding storedUndo undoKey
 found c =
     let b = c .before .before .before in
     let s = b .args .area .now in
-    ap (got s) (c .find .ensures) ∙ get-is s (b .args .count) undoKey (λ i. omega (arith, c .before .before .shared-slice-known .given i)) (b .pre) undo-key
+    ap (got s) (c .find .ensures) ∙ get-is s (b .args .count) undoKey (λ i. omega (arith, c .before .before .shared-slice-known .given i)) (b .pre) (undo-keys .0)
 
 returns : tie.Need-returns
 returns c =

@@ -2,7 +2,7 @@
 use Prim.Native.Nat.{ℕ}
 use native.Mathlib.Omega.{arith}
 use mathlib.Core.Path.{_≡_, refl, sym, ap, _∙_}
-use mathlib.Core.Bool.{Bool, true, false, cond, true≢false}
+use mathlib.Core.Bool.{Bool, true, false, cond}
 use mathlib.Core.Option.{Option, none, some}
 use mathlib.Core.List.{List, [], _∷_, map}
 use Rattle.lists.specs.Choice.{found}
@@ -10,15 +10,7 @@ use Rattle.keys.specs.Keys.{upperAll, sameKey}
 use Rattle.keys.proofs.Keys.{key-sym, key-comm, key-upper, same-caseless}
 use Rattle.items.specs.Items.{Item, getItem, setItem, without, removeItem}
 use Rattle.items.proofs.ItemLaws.{get-without}
-
--- the items of the first list, set one after another
-unfoldable pub setEach : List Item → List Item → List Item
-setEach [] ts = ts
-setEach (p ∷ ps) ts = setEach ps (setItem (p .key) (p .value) ts)
-
--- as an item is appended
-abbrev pub capital : Item → Item
-capital p = record { key = upperAll (p .key); value = p .value }
+use Rattle.area_gains.specs.Gains.{setEach, capital}
 
 -- one pass: an item with the key of one that is still to be set gets its value; what is left is appended in order
 unfoldable pub merged : List Item → List Item → List Item
@@ -49,6 +41,16 @@ remove-none key (p ∷ ps) h = go (sameKey key (p .key)) refl h (remove-none key
         let z : _≡_ {A = ℕ} 0 1 = cc (rw e at k) in
         absurd (omega arith)
     go false e k ih = rw (e, ih (rw e at k))
+
+-- an item stays, or gets its value
+pub merged-keep : (ps : List Item) (t : Item) (ts : List Item) → getItem (t .key) ps ≡ none → merged ps (t ∷ ts) ≡ t ∷ merged ps ts
+unfolding merged
+merged-keep ps t ts e = rw e
+
+pub merged-take : (ps : List Item) (t : Item) (ts : List Item) (v : List ℕ) → getItem (t .key) ps ≡ some v
+    → merged ps (t ∷ ts) ≡ record { key = t .key; value = v } ∷ merged (removeItem (t .key) ps) ts
+unfolding merged
+merged-take ps t ts v e = rw e
 
 -- nothing is to be set
 merged-none : (ts : List Item) → merged [] ts ≡ ts
