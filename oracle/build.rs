@@ -17,6 +17,12 @@ pub(crate) mod reach {
         serialize_ape_tag(tag)
     }
 
+    /// What replacement puts before the tag and after it.
+    pub(crate) fn parts(data: &[u8]) -> (&[u8], &[u8]) {
+        let (audio, _, id3v1) = ape_tag_parts(data, &ApeTag::new());
+        (audio, id3v1)
+    }
+
     pub(crate) fn replace(data: &[u8], tag: &ApeTag) -> Vec<u8> {
         let (audio, tag_data, id3v1) = ape_tag_parts(data, tag);
         [audio, &tag_data, id3v1].concat()

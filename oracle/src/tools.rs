@@ -159,8 +159,11 @@ impl Record {
         self.text.push('\n');
     }
 
-    /// Writes the list, or, to check, holds the written one against it.
+    /// Writes the list, or, to check, holds the written one against it. A module that records nothing has none.
     pub fn finish(&self, check: bool) {
+        if self.text.lines().count() == 1 {
+            return;
+        }
         assert!(self.text.len() < 1 << 20, "the replaying program has room for 1 MiB");
         let crates = Path::new(env!("CARGO_MANIFEST_DIR")).join("../crates");
         let file = crates.join(format!("{}_vectors", self.name)).join("stdin");

@@ -18,6 +18,8 @@ use Rattle.lists.specs.Write.{over, part}
 use Rattle.lists.proofs.Places.{part-is, length-part}
 use Rattle.lists.proofs.Wrote.{Wrote, start, from-start}
 use Rattle.replies.specs.Limits.{fileLimit}
+use Rattle.replies.specs.Refusal.{no, yes}
+use Rattle.replies.specs.declared.Refusal.the-variants.{MalformedArea, StepOutOfRange, NoRoom}
 use Rattle.frame.specs.declared.GainMode.{GainMode}
 use Rattle.frame.specs.declared.GainMode.the-variants.{Saturating, Wrapping}
 use Rattle.decimal.specs.Writing.{shiftedIs}
@@ -26,13 +28,14 @@ use Rattle.decimal.specs.declared.Shifted.{Shifted}
 use Rattle.decimal.proofs.Texts.{Moved, moved-is, stays-is, text-within}
 use Rattle.values.specs.Stored.{shiftStored}
 use Rattle.values.proofs.Texts.{stored-short}
+use Rattle.slip.specs.Slip.{isStep}
 use Rattle.items.specs.Items.{Item, itemBytes, areaBytes, sizeOf, parse, itemsIn}
 use Rattle.items.proofs.Area.{length-item, length-area, count-items, area-length}
 use Rattle.items.proofs.Loops.{Left, begin, Turn, items-none}
-use Rattle.area_edit.specs.Edits.{fits}
+use Rattle.area_edit.specs.Edits.{fits, edited}
 use Rattle.area_edit.proofs.Plans.{fits-yes, fits-room, fits-long}
 use Rattle.calls.specs.Calls.{staying, shiftItem, shiftStoredGain}
-use Rattle.area_shift.specs.Shift.{goes, shiftedBytes}
+use Rattle.area_shift.specs.Shift.{goes, shiftedBytes, shiftPlan}
 
 -- ---- sizes
 
@@ -291,3 +294,24 @@ module _ (room limit : ℕ) (ts : List Item) (r : Bool) (l : limit ≡ min room 
 
   pub fits-all : r ≡ true → fits room ts ≡ true
   fits-all f = fits-yes room ts (room-for f) (omega (arith, short f))
+
+-- ---- what the call answers, by the tests that led there
+
+module _ (m : GainMode) (steps : ℤ) (n : ℕ) (s : List ℕ) (room : ℕ) where
+  pub shift-12 : isSome (parse n s) ≡ false → shiftPlan m steps n s room ≡ no MalformedArea
+  unfolding edited
+  shift-12 a = rw a
+
+  module _ (a : isSome (parse n s) ≡ true) where
+    pub shift-2 : isStep steps ≡ false → shiftPlan m steps n s room ≡ no StepOutOfRange
+    unfolding edited
+    shift-2 t = rw (a, t)
+
+    pub shift-5 : isStep steps ≡ true → fits room (shiftStoredGain m steps (itemsIn n s)) ≡ false → shiftPlan m steps n s room ≡ no NoRoom
+    unfolding edited
+    shift-5 t r = rw (a, t, r)
+
+    pub shift-yes : isStep steps ≡ true → fits room (shiftStoredGain m steps (itemsIn n s)) ≡ true
+        → shiftPlan m steps n s room ≡ yes (shiftStoredGain m steps (itemsIn n s))
+    unfolding edited
+    shift-yes t r = rw (a, t, r)

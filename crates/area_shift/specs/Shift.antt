@@ -1,16 +1,18 @@
 -- The shift of the stored values of a lent item area (document 01, "Numbers in tags").
 use Prim.Native.Nat.{ℕ, _+_}
 use mathlib.Core.Bool.{Bool, false}
-use mathlib.Core.List.{List, [], _++_}
+use mathlib.Core.List.{List, [], _∷_, _++_}
 use lib.ListN.{length}
 use lib.IntN.{ℤ}
 use Rattle.lists.specs.Choice.{found}
 use Rattle.lists.specs.Le.{u32le}
 use Rattle.lists.specs.Write.{part}
-use Rattle.replies.specs.Refusal.{Plan}
+use Rattle.replies.specs.Refusal.{need, Plan}
+use Rattle.replies.specs.declared.Refusal.the-variants.{StepOutOfRange}
 use Rattle.frame.specs.declared.GainMode.{GainMode}
 use Rattle.frame.specs.declared.GainMode.the-variants.{Saturating, Wrapping}
 use Rattle.values.specs.Stored.{rangeWrapsOut, shiftStored}
+use Rattle.slip.specs.Slip.{isStep}
 use Rattle.items.specs.Items.{Item}
 use Rattle.area_edit.specs.Edits.{edited}
 use Rattle.calls.specs.Calls.{shiftStoredGain}
@@ -25,6 +27,6 @@ unfoldable pub shiftedBytes : ℤ → List ℕ → ℕ → ℕ → ℕ → List 
 shiftedBytes steps s a k e =
     found (shiftStored (part (a + 8) k s) (part (k + 1) e s) steps) (part a e s) (λ w. (u32le (length w) ++ part (a + 4) (k + 1) s) ++ w)
 
--- refusals 12 and 5
+-- refusals 12, 2 and 5
 abbrev pub shiftPlan : GainMode → ℤ → ℕ → List ℕ → ℕ → Plan (List Item)
-shiftPlan m steps n s room = edited [] (shiftStoredGain m steps) n s room
+shiftPlan m steps n s room = edited (need StepOutOfRange (isStep steps) ∷ []) (shiftStoredGain m steps) n s room

@@ -164,7 +164,7 @@ fn smaller(a: usize, b: usize) -> usize
     b
 }
 
-// The area after so many steps: refusals 12 and 5.
+// The area after so many steps: refusals 12, 2 and 5.
 pub fn shift_stored_gain(
     area: &[u8],
     count: usize,
@@ -176,6 +176,9 @@ pub fn shift_stored_gain(
 {
     if !items::well_formed(area, count) {
         return Edited::Refused(Refusal::MalformedArea);
+    }
+    if !slip::is_step(steps.0) {
+        return Edited::Refused(Refusal::StepOutOfRange);
     }
     if !fits_shifted(
         area,

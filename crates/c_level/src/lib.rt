@@ -78,7 +78,7 @@ pub extern "C" fn zib_undo(
 }
 
 // The area after so many steps, under W if `wrap`: written to the front of `out`, how many items it has into `items`, and its length into
-// `written`. Refusals 12 and 5.
+// `written`. Refusals 12, 2 and 5.
 #[no_mangle]
 pub extern "C" fn zib_shift_stored_gain(
     area: &[u8],

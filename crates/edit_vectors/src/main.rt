@@ -1,4 +1,4 @@
-// Replays the recorded answers for crates edit, level and area_shift.
+// Replays the recorded answers for crates edit, level, undo and area_shift.
 use ape_write::Written;
 use area_edit::Edited;
 use frame::GainMode;
@@ -51,15 +51,20 @@ fn remove(text: &[u8], at: usize) -> bool {
     answered(text, vectors::next_word(text, key_at), w, &out)
 }
 
-// Whether undo answers the four words from this place: the reply, the file, and the gains afterwards, also of a refused call.
-fn undone(text: &[u8], at: usize, file: &[u8], left: &mut [u8], right: &mut [u8]) -> bool {
-    let mut out = [0u8; 4096];
-    let u = undo::undo(file, left, right, &mut out);
-    let w = match u {
+// Whether an answer is that of the four words from this place: the reply, the file, and the gains afterwards, also of a refused call.
+fn left_behind(
+    text: &[u8],
+    at: usize,
+    a: LevelAnswer,
+    out: &[u8],
+    left: &[u8],
+    right: &[u8],
+) -> bool {
+    let w = match a {
         LevelAnswer::Done { length, peaks: _ } => Written::Done(length),
         LevelAnswer::Refused(reason) => Written::Refused(reason),
     };
-    if !answered(text, at, w, &out) {
+    if !answered(text, at, w, out) {
         return false;
     }
     let left_after = vectors::next_word(text, vectors::next_word(text, at));
@@ -67,6 +72,13 @@ fn undone(text: &[u8], at: usize, file: &[u8], left: &mut [u8], right: &mut [u8]
         return false;
     }
     is_hex(text, vectors::next_word(text, left_after), right)
+}
+
+// Whether undo answers the four words from this place.
+fn undone(text: &[u8], at: usize, file: &[u8], left: &mut [u8], right: &mut [u8]) -> bool {
+    let mut out = [0u8; 4096];
+    let u = undo::undo(file, left, right, &mut out);
+    left_behind(text, at, u, &out, left, right)
 }
 
 // `undo FILE LEFT RIGHT REPLY FILE LEFT RIGHT`.
@@ -85,6 +97,63 @@ fn undo(text: &[u8], at: usize) -> bool {
         &file[0..n],
         &mut left[0..l],
         &mut right[0..r],
+    )
+}
+
+// Whether level answers the five words from this place: those of undo and the number of peak items, 0 where it is refused.
+fn levelled(
+    text: &[u8],
+    at: usize,
+    file: &[u8],
+    left: &mut [u8],
+    right: &mut [u8],
+    left_steps: GainSteps,
+    right_steps: GainSteps,
+    mode: GainMode,
+    out: &mut [u8],
+) -> bool {
+    let a = level::level(file, left, right, left_steps, right_steps, mode, out);
+    if !left_behind(text, at, a, out, left, right) {
+        return false;
+    }
+    let n = match a {
+        LevelAnswer::Done { length: _, peaks } => peaks,
+        LevelAnswer::Refused(_) => 0,
+    };
+    let left_after = vectors::next_word(text, vectors::next_word(text, at));
+    let peaks_at = vectors::next_word(text, vectors::next_word(text, left_after));
+    vectors::unsigned(text, peaks_at) == n as u64
+}
+
+// `level FILE LEFT RIGHT STEPS STEPS FLAG ROOM REPLY FILE LEFT RIGHT PEAKS`.
+fn level(text: &[u8], at: usize) -> bool {
+    let mut file = [0u8; 4096];
+    let n = vectors::hex_bytes(text, at, &mut file);
+    let left_at = vectors::next_word(text, at);
+    let mut left = [0u8; 64];
+    let l = vectors::hex_bytes(text, left_at, &mut left);
+    let right_at = vectors::next_word(text, left_at);
+    let mut right = [0u8; 64];
+    let r = vectors::hex_bytes(text, right_at, &mut right);
+    let steps_at = vectors::next_word(text, right_at);
+    let right_steps_at = vectors::next_word(text, steps_at);
+    let flag_at = vectors::next_word(text, right_steps_at);
+    let room_at = vectors::next_word(text, flag_at);
+    let room = vectors::unsigned(text, room_at) as usize;
+    let mut out = [0u8; 4096];
+    if out.len() < room {
+        return false;
+    }
+    levelled(
+        text,
+        vectors::next_word(text, room_at),
+        &file[0..n],
+        &mut left[0..l],
+        &mut right[0..r],
+        GainSteps(vectors::signed(text, steps_at)),
+        GainSteps(vectors::signed(text, right_steps_at)),
+        GainMode::from_wrap(lists::starts_with(text, flag_at, b"W")),
+        &mut out[0..room],
     )
 }
 
@@ -152,6 +221,9 @@ fn agrees(text: &[u8], at: usize) -> bool {
     }
     if lists::starts_with(text, at, b"undo ") {
         return undo(text, from);
+    }
+    if lists::starts_with(text, at, b"level ") {
+        return level(text, from);
     }
     if lists::starts_with(text, at, b"shift ") {
         return shift(text, from);

@@ -1,10 +1,11 @@
-//! Crates `edit` and `level`: set and remove on a file, and undo on a file and its gains; with `shift`, the shift of an item area.
+//! Crates `edit` and `undo`: set and remove on a file, and undo on a file and its gains; with `level` and `shift`, the level call and the
+//! shift of an item area.
 //!
 //! The editing gate and the refusals are not in the published Rust: they are read here a second time from document 01. What an
 //! accepted call does to the tag, the file and the gains is the published Rust's.
 
 use super::ape::{area_of, is_area, item, random_file, tag_of, written};
-use super::{shift, Case};
+use super::{level, shift, Case};
 use crate::ape::{find_ape_footer, parse_undo_values, parse_undo_wrap, reach, read_ape_tag, ApeTag};
 use crate::frame::{adjust_gain_value, read_u32_le, GainMode};
 use crate::tools::{hex, Bench, Compare, Record, Rng};
@@ -83,12 +84,13 @@ pub mod library {
             let (l, r) = (left.as_mut_ptr(), right.as_mut_ptr());
             zib_undo(f, file.len(), l, left.len(), r, right.len(), o, out.len(), &mut written, &mut peaks)
         };
+        assert!(reply == 0 || (written, peaks) == (7, 7), "a refused call changed a lent number");
         done(reply, (written, peaks))
     }
 }
 
-const LIMIT: usize = 16_777_216;
-const EIGHT: [&str; 8] = [
+pub const LIMIT: usize = 16_777_216;
+pub const EIGHT: [&str; 8] = [
     "MP3GAIN_UNDO",
     "MP3GAIN_MINMAX",
     "MP3GAIN_ALBUM_MINMAX",
@@ -105,7 +107,7 @@ fn fits(tag: &ApeTag) -> bool {
 }
 
 /// Document 01's editing gate: the items of a file that is fit for editing.
-fn gate(file: &[u8]) -> Option<ApeTag> {
+pub fn gate(file: &[u8]) -> Option<ApeTag> {
     let Some(footer) = find_ape_footer(file) else { return Some(ApeTag::new()) };
     let number = |at: usize| read_u32_le(&file[footer + at..]) as usize;
     let (version, size, count, header) = (number(8), number(12), number(16), number(20) >> 31);
@@ -137,7 +139,7 @@ fn is_key(key: &[u8]) -> bool {
 }
 
 /// The file with its tag replaced, if the tag keeps the limits and the file is not too long.
-fn finish(file: &[u8], tag: &ApeTag) -> Result<Vec<u8>, u32> {
+pub fn finish(file: &[u8], tag: &ApeTag) -> Result<Vec<u8>, u32> {
     if !fits(tag) {
         return Err(6);
     }
@@ -149,7 +151,7 @@ fn finish(file: &[u8], tag: &ApeTag) -> Result<Vec<u8>, u32> {
     }
 }
 
-fn published_set(file: &[u8], key: &[u8], value: &[u8]) -> Result<Vec<u8>, u32> {
+pub fn published_set(file: &[u8], key: &[u8], value: &[u8]) -> Result<Vec<u8>, u32> {
     if file.len() > LIMIT {
         return Err(1);
     }
@@ -162,7 +164,7 @@ fn published_set(file: &[u8], key: &[u8], value: &[u8]) -> Result<Vec<u8>, u32> 
     finish(file, &tag)
 }
 
-fn published_remove(file: &[u8], key: &[u8]) -> Result<Vec<u8>, u32> {
+pub fn published_remove(file: &[u8], key: &[u8]) -> Result<Vec<u8>, u32> {
     if file.len() > LIMIT {
         return Err(1);
     }
@@ -174,16 +176,21 @@ fn published_remove(file: &[u8], key: &[u8]) -> Result<Vec<u8>, u32> {
     finish(file, &tag)
 }
 
-/// What undo leaves: the file, both gain lists, and the number of peak items.
-#[derive(PartialEq, Debug)]
-struct Undone {
-    file: Vec<u8>,
-    left: Vec<u8>,
-    right: Vec<u8>,
-    peaks: usize,
+/// What level and undo leave: the file, both gain lists, and the number of peak items.
+#[derive(Clone, PartialEq, Debug)]
+pub struct Levelled {
+    pub file: Vec<u8>,
+    pub left: Vec<u8>,
+    pub right: Vec<u8>,
+    pub peaks: usize,
 }
 
-fn published_undo(file: &[u8], left: &[u8], right: &[u8]) -> Result<Undone, u32> {
+/// Every gain moved by so many steps.
+pub fn moved(gains: &[u8], steps: i32, wrap: bool) -> Vec<u8> {
+    gains.iter().map(|&g| adjust_gain_value(g, steps, GainMode::from_wrap(wrap))).collect()
+}
+
+fn published_undo(file: &[u8], left: &[u8], right: &[u8]) -> Result<Levelled, u32> {
     if file.len() > LIMIT {
         return Err(1);
     }
@@ -193,43 +200,62 @@ fn published_undo(file: &[u8], left: &[u8], right: &[u8]) -> Result<Undone, u32>
     let mut tag = gate(file).ok_or(8u32)?;
     let text = tag.get("MP3GAIN_UNDO").ok_or(10u32)?.to_string();
     let (left_steps, right_steps) = parse_undo_values(Some(&text));
-    let mode = || GainMode::from_wrap(parse_undo_wrap(Some(&text)));
-    let moved = |gains: &[u8], steps| gains.iter().map(|&g| adjust_gain_value(g, steps, mode())).collect::<Vec<_>>();
+    let wrap = parse_undo_wrap(Some(&text));
     for key in EIGHT {
         tag.remove(key);
     }
-    Ok(Undone {
+    Ok(Levelled {
         file: reach::replace(file, &tag),
-        left: moved(left, left_steps),
-        right: moved(right, right_steps),
+        left: moved(left, left_steps, wrap),
+        right: moved(right, right_steps, wrap),
         peaks: 0,
     })
 }
 
-/// Undo with ample room, with exact room, and with one byte less. Panics where a refused call changed something.
-fn our_undo(file: &[u8], left: &[u8], right: &[u8]) -> Result<Undone, u32> {
-    let call = |room: usize| {
-        let (mut l, mut r, mut out) = (left.to_vec(), right.to_vec(), vec![0xC3; room]);
-        let reply = library::undo(file, &mut l, &mut r, &mut out);
-        match reply {
-            Ok((n, peaks)) => {
-                assert!(out[n..].iter().all(|&b| b == 0xC3), "wrote past its length");
-                out.truncate(n);
-                Ok(Undone { file: out, left: l, right: r, peaks })
-            }
-            Err(reason) => {
-                assert!(l == left && r == right && out.iter().all(|&b| b == 0xC3), "a refused undo changed something");
-                Err(reason)
-            }
+/// A call on gains with so much room. Panics where it changed something that it should not have.
+pub fn in_room(
+    left: &[u8],
+    right: &[u8],
+    room: usize,
+    call: impl Fn(&mut [u8], &mut [u8], &mut [u8]) -> Result<(usize, usize), u32>,
+) -> Result<Levelled, u32> {
+    let (mut l, mut r, mut out) = (left.to_vec(), right.to_vec(), vec![0xC3; room]);
+    match call(&mut l, &mut r, &mut out) {
+        Ok((n, peaks)) => {
+            assert!(out[n..].iter().all(|&b| b == 0xC3), "wrote past its length");
+            out.truncate(n);
+            Ok(Levelled { file: out, left: l, right: r, peaks })
         }
-    };
-    let ample = call(file.len() + 16)?;
-    let n = ample.file.len();
-    assert_eq!(call(n).as_ref(), Ok(&ample), "exact room");
-    if n > 0 {
-        assert_eq!(call(n - 1), Err(5), "one byte short");
+        Err(reason) => {
+            assert!(l == left && r == right && out.iter().all(|&b| b == 0xC3), "a refused call changed something");
+            Err(reason)
+        }
     }
-    Ok(ample)
+}
+
+/// The same with ample room, with exact room, with one byte less, and with none: 5 is the last of the refusals.
+pub fn in_rooms(
+    left: &[u8],
+    right: &[u8],
+    ample: usize,
+    call: impl Fn(&mut [u8], &mut [u8], &mut [u8]) -> Result<(usize, usize), u32>,
+) -> Result<Levelled, u32> {
+    let answer = in_room(left, right, ample, &call);
+    let Ok(done) = &answer else {
+        assert_eq!(in_room(left, right, 0, &call), answer, "refused, and otherwise without room");
+        return answer;
+    };
+    let n = done.file.len();
+    assert_eq!(in_room(left, right, n, &call), answer, "exact room");
+    if n > 0 {
+        assert_eq!(in_room(left, right, n - 1, &call), Err(5), "one byte short");
+        assert_eq!(in_room(left, right, 0, &call), Err(5), "no room");
+    }
+    answer
+}
+
+fn our_undo(file: &[u8], left: &[u8], right: &[u8]) -> Result<Levelled, u32> {
+    in_rooms(left, right, file.len() + 16, |l, r, out| library::undo(file, l, r, out))
 }
 
 /// The key with the case of some letters turned.
@@ -273,13 +299,18 @@ fn edited_file(rng: &mut Rng) -> Vec<u8> {
     }
     let n = rng.below(7);
     let items = (0..n).map(|_| item(&random_key(rng), &random_value(rng))).collect();
+    around(rng, &tag_of(items))
+}
+
+/// A file with this tag: audio, ID3v1 or not, some damaged.
+pub fn around(rng: &mut Rng, tag: &ApeTag) -> Vec<u8> {
     let length = rng.pick(&[0, 1, 32, 100, 128, 200]);
     let mut front = rng.bytes(length);
     if rng.below(3) == 0 {
         front.extend_from_slice(b"TAG");
         front.resize(length + 128, 0);
     }
-    let mut file = reach::replace(&front, &tag_of(items));
+    let mut file = reach::replace(&front, tag);
     if rng.below(6) == 0 && !file.is_empty() {
         let at = file.len() - 1 - rng.below(file.len().min(200));
         file[at] = rng.next() as u8;
@@ -304,7 +335,7 @@ fn edits(c: &mut Compare, file: &[u8], key: &[u8], value: &[u8]) {
 }
 
 /// An undo text with a byte of hex 80 or more is outside the compared domain.
-fn in_domain(file: &[u8]) -> bool {
+pub fn in_domain(file: &[u8]) -> bool {
     gate(file).is_none_or(|tag| tag.get("MP3GAIN_UNDO").is_none_or(str::is_ascii))
 }
 
@@ -385,6 +416,7 @@ fn compare(c: &mut Compare) {
     assert_eq!(library::undo(&file, &mut [], &mut [], &mut out), Err(1));
     assert_eq!(library::set_ape_item(&file[..LIMIT - 75], b"AB", b"c", &mut out), Err(5));
     assert_eq!(library::set_ape_item(&file[..LIMIT - 76], b"AB", b"c", &mut out), Ok(LIMIT));
+    level::compare(c);
     shift::compare(c);
 }
 
@@ -414,6 +446,7 @@ fn record(r: &mut Record) {
         }
     }
     shift::record(r);
+    level::record(r);
 }
 
 fn bench(b: &mut Bench) {
@@ -453,5 +486,6 @@ fn bench(b: &mut Bench) {
             || library::undo(&file, &mut l, &mut r, &mut out),
         );
     }
+    level::bench(b);
     shift::bench(b);
 }

@@ -1,8 +1,8 @@
 //! Crate `area_shift`: the stored values of an item area after so many steps, beside the published `ApeTag::shift_stored_gain`.
 //!
-//! Compared where document 01 compares: keys and values of UTF-8, range fields of ASCII, gain texts by at most 255 steps. Peaks and gain
-//! texts of another form stay as found, so the published call gets them under a key that it does not know. Where a sum of a range passes
-//! i32 the Rust panics or wraps, as it was built: there the exact sum decides.
+//! Compared where document 01 compares: keys and values of UTF-8, range fields of ASCII. Peaks and gain texts of another form stay as found,
+//! so the published call gets them under a key that it does not know. Where a sum of a range passes i32 the Rust panics or wraps, as it was
+//! built: there the exact sum decides. A step outside -255..255 is refused, which the Rust does not do.
 
 use super::ape::{area_of, is_area, item, tag_of, written};
 use super::items::{are_utf8, parts};
@@ -55,38 +55,44 @@ mod library {
 /// The count of the new items and their area, or the refusal.
 type Shifted = Result<(usize, Vec<u8>), u32>;
 
-/// The published answer; none outside the domain.
-fn published(area: &[u8], count: usize, steps: i32, wrap: bool) -> Option<Shifted> {
-    if !is_area(area, count) {
-        return Some(Err(12));
-    }
-    let parts = parts(area, count);
-    are_utf8(&parts).then_some(())?;
-    let text = |bytes: &[u8]| String::from_utf8(bytes.to_vec()).unwrap();
+/// The tag that the published call leaves by a step in -255..255; none outside the domain.
+pub fn shifted(tag: &ApeTag, steps: i32, wrap: bool) -> Option<ApeTag> {
     let mut items = Vec::new();
-    for (i, (key, value)) in parts.iter().enumerate() {
-        let key = text(key);
-        if is_range_key(&key) {
+    for (i, found) in tag.items.iter().enumerate() {
+        let (key, value) = (found.key(), found.value().as_bytes());
+        if is_range_key(key) {
             is_range_domain(value).then_some(())?;
             if wrap && !range_sums(value, steps).into_iter().all(is_i32) {
                 continue;
             }
         }
-        let moves = is_gain_key(&key) && is_gain(value);
-        if moves && !(-255..=255).contains(&steps) {
-            return None;
-        }
-        let stays = is_peak_key(&key) || is_gain_key(&key) && !moves;
-        items.push(item(&if stays { format!("\u{1}{i}") } else { key }, &text(value)));
+        let moves = is_gain_key(key) && is_gain(value);
+        let stays = is_peak_key(key) || is_gain_key(key) && !moves || key.starts_with('\u{1}');
+        items.push(if stays { item(&format!("\u{1}{i}"), "") } else { found.clone() });
     }
-    let mut tag = tag_of(items);
-    tag.shift_stored_gain(steps, wrap);
-    for found in &mut tag.items {
-        if let Some(i) = found.key().strip_prefix('\u{1}').and_then(|i| i.parse::<usize>().ok()) {
-            *found = item(&text(parts[i].0), found.value());
+    let mut new = tag_of(items);
+    new.shift_stored_gain(steps, wrap);
+    for found in &mut new.items {
+        if let Some(i) = found.key().strip_prefix('\u{1}') {
+            *found = tag.items[i.parse::<usize>().unwrap()].clone();
         }
     }
-    Some(Ok((tag.len(), area_of(&tag))))
+    Some(new)
+}
+
+/// The published answer; none outside the domain.
+fn published(area: &[u8], count: usize, steps: i32, wrap: bool) -> Option<Shifted> {
+    if !is_area(area, count) {
+        return Some(Err(12));
+    }
+    if !(-255..=255).contains(&steps) {
+        return Some(Err(2));
+    }
+    let parts = parts(area, count);
+    are_utf8(&parts).then_some(())?;
+    let text = |bytes: &[u8]| String::from_utf8(bytes.to_vec()).unwrap();
+    let tag = tag_of(parts.iter().map(|(key, value)| item(&text(key), &text(value))).collect());
+    shifted(&tag, steps, wrap).map(|new| Ok((new.len(), area_of(&new))))
 }
 
 /// The library's answer: with ample room, exact room, one byte less and no room at all.
@@ -98,11 +104,13 @@ fn ours(area: &[u8], count: usize, steps: i32, wrap: bool) -> Shifted {
             length
         })
     };
-    let bytes = written(area.len() + 32 * count.min(area.len()), call)?;
-    if !bytes.is_empty() {
-        assert_eq!(call(&mut []), Err(5), "no room");
+    let answer = written(area.len() + 32 * count.min(area.len()), call);
+    match &answer {
+        Ok(bytes) if bytes.is_empty() => (),
+        Ok(_) => assert_eq!(call(&mut []), Err(5), "no room"),
+        Err(reason) => assert_eq!(call(&mut []), Err(*reason), "refused, and otherwise without room"),
     }
-    Ok((items.get(), bytes))
+    answer.map(|bytes| (items.get(), bytes))
 }
 
 fn both(c: &mut Compare, area: &[u8], count: usize, steps: i32, wrap: bool) {
@@ -116,7 +124,7 @@ fn both(c: &mut Compare, area: &[u8], count: usize, steps: i32, wrap: bool) {
     c.bytes(&what, area, theirs, |s| theirs(s).map(|_| ours(s, count, steps, wrap)));
 }
 
-fn flag(wrap: bool) -> &'static str {
+pub fn flag(wrap: bool) -> &'static str {
     if wrap {
         "W"
     } else {
@@ -144,7 +152,7 @@ const VALUES: [&str; 24] = [
 ];
 
 /// An item area with a value of each kind, duplicates in another case among them.
-fn full_tag() -> ApeTag {
+pub fn full_tag() -> ApeTag {
     let values = ["+003,-012,W", "010,200", "5,250", "-6.510300 dB", "0.988553", "1.000000", "0.900000", "EBU R128"];
     let mut items: Vec<_> = MP3GAIN_VALUE_KEYS.iter().zip(values).map(|(k, v)| item(k, v)).collect();
     items.insert(1, item("Title", "094,168"));
@@ -154,7 +162,7 @@ fn full_tag() -> ApeTag {
     tag_of(items)
 }
 
-fn some_tag(rng: &mut Rng) -> ApeTag {
+pub fn some_tag(rng: &mut Rng) -> ApeTag {
     let n = if rng.below(40) == 0 { 200 } else { rng.below(7) };
     let mut items = Vec::new();
     for _ in 0..n {
@@ -204,7 +212,7 @@ pub fn compare(c: &mut Compare) {
         }
     }
     // Every step: ranges about every end, and gain texts that come to zero or nearly.
-    for steps in -600..=600 {
+    for steps in -260..=260 {
         for n in 0..=255 {
             one(c, MINMAX, &format_minmax(n, 255 - n / 2), steps);
         }
@@ -224,6 +232,7 @@ pub fn compare(c: &mut Compare) {
     for wrap in [false, true] {
         for n in [0, 1, count - 1, count + 1, 1 << 32, usize::MAX] {
             both(c, &area, n, 7, wrap);
+            both(c, &area, n, 256, wrap);
         }
         for at in 0..area.len() {
             for n in [0, count - 1, count] {
@@ -303,6 +312,8 @@ pub fn record(r: &mut Record) {
         line(r, &full, count, 6, wrap, exact.len() - 1);
         line(r, &full, count - 1, 5, wrap, 4096);
         line(r, &full[1..], count, 5, wrap, 0);
+        line(r, &full[1..], count, 256, wrap, 0);
+        line(r, &full, count, -256, wrap, 0);
         line(r, &[], 0, 5, wrap, 0);
     }
     for i in 0..40 {

@@ -392,7 +392,8 @@ const PADS: [(&str, &str); 9] = [
     ("\x08", "\x0E"),
 ];
 
-const FLAGS: [&str; 14] = ["", "W", "w", "N", "n", " W", "w\t", "\x0BW\x0C", "\x1CW", "WW", "W,", "N,W", "x", "W\0"];
+pub const FLAGS: [&str; 14] =
+    ["", "W", "w", "N", "n", " W", "w\t", "\x0BW\x0C", "\x1CW", "WW", "W,", "N,W", "x", "W\0"];
 
 /// Steps about every end.
 #[rustfmt::skip]
