@@ -6,6 +6,7 @@ mod ape;
 mod edit;
 mod frame;
 mod items;
+mod listing;
 mod shift;
 mod utf8;
 mod values;
@@ -18,4 +19,4 @@ pub struct Case {
     pub bench: fn(&mut Bench),
 }
 
-pub const ALL: &[Case] = &[frame::CASE, ape::CASE, items::CASE, utf8::CASE, values::CASE, edit::CASE];
+pub const ALL: &[Case] = &[frame::CASE, ape::CASE, items::CASE, utf8::CASE, values::CASE, edit::CASE, listing::CASE];
