@@ -31,7 +31,7 @@ pub(crate) mod reach {
 "#;
 
 /// The library's archives, one for each module.
-const ARCHIVES: [&str; 7] = ["c_frame", "c_utf8", "c_values", "c_items", "c_ape", "c_edit", "c_level"];
+const ARCHIVES: [&str; 8] = ["c_frame", "c_utf8", "c_values", "c_items", "c_ape", "c_edit", "c_level", "c_list"];
 
 fn fail(text: &str) -> ! {
     eprintln!("oracle: {text}");

@@ -171,7 +171,7 @@ fn random_tag(rng: &mut Rng) -> ApeTag {
     )
 }
 
-fn block(size: u32, count: u32, flags: u32, version: u32) -> Vec<u8> {
+pub fn block(size: u32, count: u32, flags: u32, version: u32) -> Vec<u8> {
     let mut b = b"APETAGEX".to_vec();
     for n in [version, size, count, flags, 0, 0] {
         b.extend_from_slice(&n.to_le_bytes());

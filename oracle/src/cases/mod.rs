@@ -7,6 +7,7 @@ mod edit;
 mod frame;
 mod items;
 mod level;
+mod listing;
 mod reversal;
 mod shift;
 mod utf8;
@@ -20,4 +21,5 @@ pub struct Case {
     pub bench: fn(&mut Bench),
 }
 
-pub const ALL: &[Case] = &[frame::CASE, ape::CASE, items::CASE, utf8::CASE, values::CASE, edit::CASE, reversal::CASE];
+pub const ALL: &[Case] =
+    &[frame::CASE, ape::CASE, items::CASE, utf8::CASE, values::CASE, edit::CASE, reversal::CASE, listing::CASE];
