@@ -212,13 +212,8 @@ fn set_minmax(text: &[u8], at: usize) -> bool {
     edited(text, vectors::next_word(text, greatest_at), e, &out)
 }
 
-// `set_replaygain COUNT AREA TRACK_GAIN TRACK_PEAK ALBUM_GAIN ALBUM_PEAK ALGORITHM ..`.
-fn set_replaygain(text: &[u8], at: usize) -> bool {
-    let area_at = vectors::next_word(text, at);
-    let mut area = [0u8; 4096];
-    let m = vectors::hex_bytes(text, area_at, &mut area);
-    let count = vectors::unsigned(text, at) as usize;
-    let at0 = vectors::next_word(text, area_at);
+// Whether the call with the five texts from this place answers the words behind them.
+fn set_texts(text: &[u8], at0: usize, area: &[u8], count: usize) -> bool {
     let mut track_gain = [0u8; 512];
     let n0 = vectors::hex_bytes(text, at0, &mut track_gain);
     let at1 = vectors::next_word(text, at0);
@@ -235,7 +230,7 @@ fn set_replaygain(text: &[u8], at: usize) -> bool {
     let n4 = vectors::hex_bytes(text, at4, &mut algorithm);
     let mut out = [0u8; 8192];
     let e = area_gains::set_replaygain(
-        &area[0..m],
+        area,
         count,
         &track_gain[0..n0],
         &track_peak[0..n1],
@@ -245,6 +240,15 @@ fn set_replaygain(text: &[u8], at: usize) -> bool {
         &mut out,
     );
     edited(text, vectors::next_word(text, at4), e, &out)
+}
+
+// `set_replaygain COUNT AREA TRACK_GAIN TRACK_PEAK ALBUM_GAIN ALBUM_PEAK ALGORITHM ..`.
+fn set_replaygain(text: &[u8], at: usize) -> bool {
+    let area_at = vectors::next_word(text, at);
+    let mut area = [0u8; 4096];
+    let m = vectors::hex_bytes(text, area_at, &mut area);
+    let count = vectors::unsigned(text, at) as usize;
+    set_texts(text, vectors::next_word(text, area_at), &area[0..m], count)
 }
 
 // Whether the answer in the line at this place is the library's.
