@@ -1,0 +1,132 @@
+/* Each call of include/zibrunnos.h from C, once as it is done and once refused where it can be: document 01's examples. */
+#include "zibrunnos.h"
+#include <stdio.h>
+#include <string.h>
+
+static int failed;
+
+static void check(bool good, const char *what)
+{
+    if (!good) {
+        failed++;
+        printf("faces: %s\n", what);
+    }
+}
+
+#define CHECK(e) check(e, #e)
+#define TEXT(s) (const uint8_t *)(s), sizeof(s) - 1
+#define NONE TEXT("")
+
+/* whether the first n bytes of b are this text */
+static bool is(const uint8_t *b, size_t n, const char *s, size_t len)
+{
+    return n == len && memcmp(b, s, len) == 0;
+}
+
+#define IS(b, n, s) is(b, n, s, sizeof(s) - 1)
+
+/* key AB, value c */
+#define AREA "\1\0\0\0" "\0\0\0\0" "AB\0" "c"
+#define END(flags) "APETAGEX" "\xd0\7\0\0" "\x2c\0\0\0" "\1\0\0\0" "\0\0\0" flags "\0\0\0\0" "\0\0\0\0"
+#define TAG END("\xa0") AREA END("\x80")
+
+static void frame(void)
+{
+    uint32_t value = 7, there = 7;
+    size_t start = 7;
+    CHECK(zib_read_u32_le(TEXT("\0\1\2\3\4"), 1, &value) && value == 0x04030201);
+    CHECK(!zib_read_u32_le(TEXT("\1\2\3"), 0, &value) && value == 0x04030201);
+    static uint8_t block[128] = "TAG";
+    CHECK(zib_ends_with_id3v1(block, sizeof block));
+    CHECK(!zib_ends_with_id3v1(block, 127));
+    CHECK(zib_ape_tag_start(TEXT(TAG), 44, &there, &start) == 0 && there == 1 && start == 0);
+    CHECK(zib_adjust_gain_value(250, 10, false) == 255);
+    CHECK(zib_adjust_gain_value(250, 10, true) == 4);
+}
+
+static void utf8(void)
+{
+    uint8_t out[16];
+    size_t n = 7;
+    CHECK(zib_is_utf8(TEXT("\xe2\x82\xac")));
+    CHECK(!zib_is_utf8(TEXT("\xff")));
+    CHECK(zib_lossy_into(TEXT("\xe2\x82\x41"), out, sizeof out, &n) == 0 && IS(out, n, "\xef\xbf\xbd\x41"));
+    CHECK(zib_lossy_into(TEXT("\xe2\x82\x41"), out, 3, &n) == ZIB_NO_ROOM && n == 4);
+}
+
+static void values(void)
+{
+    uint8_t out[32];
+    size_t n = 0;
+    int32_t left = 0, right = 0;
+    uint32_t flag = 7;
+    CHECK(zib_parse_undo(TEXT("-3,junk"), &left, &right, &flag) == 0 && left == -3 && right == -3 && flag == 0);
+    CHECK(zib_format_undo_value(0, 1000, true, out, sizeof out, &n) == 0 && IS(out, n, "+000,+1000,W"));
+    CHECK(zib_format_undo_value(3, -12, false, out, 10, &n) == ZIB_NO_ROOM);
+    CHECK(zib_accumulate_undo(TEXT("+003,-012,N"), 5, -5, &left, &right) == 0 && left == -2 && right == -7);
+    CHECK(zib_format_minmax(94, 168, out, sizeof out, &n) == 0 && IS(out, n, "094,168"));
+    CHECK(zib_range_wraps_out(TEXT("MP3GAIN_MINMAX"), TEXT("094,168"), 100));
+    CHECK(zib_shift_stored_value(TEXT("MP3GAIN_MINMAX"), TEXT("094,168"), 100, &flag, out, sizeof out, &n) == 0 && flag == 1 && IS(out, n, "194,255"));
+    CHECK(zib_shift_stored_value(TEXT("REPLAYGAIN_TRACK_PEAK"), TEXT("0.9"), 1, &flag, out, sizeof out, &n) == 0 && flag == 0);
+    CHECK(zib_parse_slip(TEXT("left=-3\nright=+4\nmode=W\n"), &left, &right, &flag) == 0 && left == -3 && right == 4 && flag == 1);
+    CHECK(zib_parse_slip(TEXT("right=4\nleft=3\n"), &left, &right, &flag) == ZIB_MALFORMED_SLIP);
+    CHECK(zib_parse_slip(TEXT("left=256\nright=0\n"), &left, &right, &flag) == ZIB_STEP_OUT_OF_RANGE);
+}
+
+static void items(void)
+{
+    uint8_t a[256], b[256];
+    size_t count = 0, n = 0, start = 0, size = 0;
+    uint32_t there = 7;
+    int32_t steps = 7;
+    CHECK(zib_is_key(TEXT("AB")) && !zib_is_key(TEXT("A")) && !zib_is_key(TEXT("tag")));
+    CHECK(zib_which_key(TEXT("mp3gain_undo")) == 0 && zib_which_key(TEXT("AB")) == 8);
+    CHECK(zib_get(TEXT(AREA), 1, TEXT("ab"), &there, &start, &size) == 0 && there == 1 && start == 11 && size == 1);
+    CHECK(zib_get(TEXT(AREA), 2, TEXT("ab"), &there, &start, &size) == ZIB_MALFORMED_AREA);
+    CHECK(zib_set(NONE, 0, TEXT("ab"), TEXT("c"), a, sizeof a, &count, &n) == 0 && count == 1 && IS(a, n, AREA));
+    CHECK(zib_set(NONE, 0, TEXT("A"), TEXT("c"), a, sizeof a, &count, &n) == ZIB_BAD_KEY);
+    CHECK(zib_set(NONE, 0, TEXT("AB"), TEXT("\xff"), a, sizeof a, &count, &n) == ZIB_NOT_UTF8);
+    CHECK(zib_remove(TEXT(AREA), 1, TEXT("aB"), a, sizeof a, &count, &n) == 0 && count == 0 && n == 0);
+    CHECK(zib_set_undo_gain(TEXT(AREA), 1, 3, -12, false, a, sizeof a, &count, &n) == 0 && count == 2);
+    CHECK(zib_get_undo_gain(a, n, count, &there, &steps) == 0 && there == 1 && steps == 3);
+    CHECK(zib_set_minmax(a, n, count, 94, 168, b, sizeof b, &count, &n) == 0 && count == 3);
+    CHECK(zib_set_replaygain(b, n, count, TEXT("-3.500000 dB"), NONE, NONE, TEXT("0.9"), NONE, a, sizeof a, &count, &n) == 0 && count == 5);
+    CHECK(zib_remove_replaygain(a, n, count, b, sizeof b, &start, &size) == 0 && start == 3);
+    CHECK(zib_drop_undone(a, n, count, b, sizeof b, &start, &size) == 0 && start == 3);
+    CHECK(zib_shift_stored_gain(a, n, count, 2, false, b, sizeof b, &start, &size) == 0 && start == 5);
+    CHECK(zib_shift_stored_gain(a, n, count, 256, false, b, sizeof b, &start, &size) == ZIB_STEP_OUT_OF_RANGE);
+    CHECK(zib_take_mp3gain(a, n, count, b, sizeof b, &start, &size) == 0 && start == 1 && IS(b, size, AREA));
+}
+
+static void files(void)
+{
+    uint8_t out[1024], again[1024], left[2] = {10, 0}, right[1] = {0};
+    static uint8_t text[147473];
+    uint32_t there = 7;
+    size_t count = 0, n = 0, m = 0, at = 0, peaks = 7;
+    CHECK(zib_find_ape_footer(TEXT(TAG), &there, &at) == 0 && there == 1 && at == 44);
+    CHECK(zib_read_ape_tag(TEXT(TAG), out, sizeof out, &there, &count, &n) == 0 && there == 1 && count == 1 && IS(out, n, AREA));
+    CHECK(zib_serialize_ape_tag(TEXT(AREA), 1, out, sizeof out, &n) == 0 && IS(out, n, TAG));
+    CHECK(zib_serialize_ape_tag(TEXT(AREA), 1, out, 75, &n) == ZIB_NO_ROOM);
+    CHECK(zib_replace_ape_tag(TEXT("audio" TAG), NONE, 0, out, sizeof out, &n) == 0 && IS(out, n, "audio"));
+    CHECK(zib_set_ape_item(NONE, TEXT("ab"), TEXT("c"), out, 76, &n) == 0 && IS(out, n, TAG));
+    CHECK(zib_remove_ape_item(TEXT("audio" TAG), TEXT("AB"), out, sizeof out, &n) == 0 && IS(out, n, "audio"));
+    CHECK(zib_level(TEXT("audio" TAG), left, 2, right, 0, 5, 5, false, out, sizeof out, &n, &peaks) == 0 && left[0] == 15 && left[1] == 0 && peaks == 0);
+    CHECK(zib_level(out, n, left, 2, right, 0, 5, 5, true, again, sizeof again, &m, &peaks) == ZIB_FLAG_DIFFERS && left[0] == 15);
+    CHECK(zib_level(out, n, left, 0, right, 0, 5, 5, false, again, sizeof again, &m, &peaks) == ZIB_NO_LEFT_GAINS);
+    CHECK(zib_undo(out, n, left, 2, right, 0, again, sizeof again, &m, &peaks) == 0 && left[0] == 10 && IS(again, m, "audio" TAG));
+    CHECK(zib_undo(again, m, left, 2, right, 0, out, sizeof out, &n, &peaks) == ZIB_NO_UNDO && left[0] == 10);
+    CHECK(zib_list_tag(TEXT(TAG), text) == 13 && IS(text, 13, "items=1\nAB=c\n"));
+    CHECK(zib_list_tag(NONE, text) == 11 && IS(text, 11, "items=none\n"));
+}
+
+int main(void)
+{
+    frame();
+    utf8();
+    values();
+    items();
+    files();
+    printf("faces: %d failed\n", failed);
+    return failed != 0;
+}
