@@ -1,8 +1,9 @@
-"""Loops of several kinds: what we write, mutagen and TagLib read; what mutagen, TagLib and mp3gain write, we read; all of it is undone.
+"""Loops of several kinds: what we write, mutagen, TagLib and ffmpeg read; what mutagen, TagLib, mp3gain and ffmpeg write, we read; all of it is undone.
 
-usage: peers.py FOLDER TOOLS LOOP
+usage: peers.py FOLDER LOOP
 """
 
+import json
 import math
 import os
 import random
@@ -15,7 +16,7 @@ import wave
 import mutagen.apev2
 import taglib
 
-work, tools, loop = sys.argv[1:]
+work, loop = sys.argv[1:]
 checks = failed = 0
 
 
@@ -54,6 +55,23 @@ def by_taglib(path):
     return tags
 
 
+def by_ffmpeg(path):
+    """ffmpeg looks for such a tag in WavPack files, not in MP3 files."""
+    found = run("ffprobe", "-v", "error", "-show_entries", "format_tags", "-of", "json", path).stdout
+    return {k.upper(): v for k, v in json.loads(found)["format"].get("tags", {}).items()}
+
+
+def decoded(path):
+    """The samples that ffmpeg hears in a file."""
+    return subprocess.run(["ffmpeg", "-v", "error", "-i", path, "-f", "s16le", "-"], stdout=subprocess.PIPE).stdout
+
+
+def cut(data):
+    """A file cut in front of the tag at its end, a tag with a header."""
+    size = struct.unpack_from("<I", data, len(data) - 20)[0] + 32
+    return data[:-size], data[-size:]
+
+
 def sound(name, channels, rate):
     r = random.Random(name)
     path = os.path.join(work, name + ".wav")
@@ -77,7 +95,7 @@ kinds = [
 ]
 for name, channels, rate, options in kinds:
     path = os.path.join(work, name + ".mp3")
-    made = run(os.path.join(tools, "lame"), "--quiet", sound(name, channels, rate), path, *options)
+    made = run("lame", "--quiet", sound(name, channels, rate), path, *options)
     check(made.returncode == 0, f"{name}: lame says {made.stderr}")
     first = read(path)
 
@@ -98,13 +116,13 @@ for name, channels, rate, options in kinds:
     # mp3gain takes back what we did, but for its own items.
     with open(path, "wb") as f:
         f.write(levelled)
-    run(os.path.join(tools, "mp3gain"), "-q", "-u", path)
+    run("mp3gain", "-q", "-u", path)
     check(listed(path).get("MP3GAIN_UNDO") == "+000,+000,N", f"{name}: mp3gain leaves {listed(path)}")
 
     # mp3gain moves it, we move it further, and take back both.
     with open(path, "wb") as f:
         f.write(first)
-    run(os.path.join(tools, "mp3gain"), "-q", "-g", "3", path)
+    run("mp3gain", "-q", "-g", "3", path)
     check(listed(path).get("MP3GAIN_UNDO") == "-003,-003,N", f"{name}: mp3gain stores {listed(path)}")
     run(loop, "level", path, "2", "2")
     check(listed(path).get("MP3GAIN_UNDO") == "-005,-005,N", f"{name}: after mp3gain and us {listed(path)}")
@@ -128,6 +146,36 @@ for name, channels, rate, options in kinds:
     song.save()
     song.close()
     check(run(loop, "level", path + ".taglib.mp3", "1", "1").returncode == 0, f"{name}: level refuses what TagLib wrote")
+
+# ffmpeg writes such tags into WavPack files. Its tag is listed there; behind a loop it is kept by level and undo.
+wavpack = os.path.join(work, "ffmpeg.wv")
+words = ["-metadata", "title=Fläche", "-metadata", "artist=Höller", "-metadata", "place=floor=12"]
+made = run("ffmpeg", "-v", "error", "-i", sound("ffmpeg", 2, 44100), *words, wavpack)
+check(made.returncode == 0, f"ffmpeg says {made.stderr}")
+theirs = listed(wavpack)
+told = by_ffmpeg(wavpack)
+check(theirs.keys() == told.keys(), f"ffmpeg wrote {told}, we list {theirs}")
+check(theirs.get("TITLE") == "Fl\\c3\\a4che" and theirs.get("PLACE") == "floor=12", f"ffmpeg wrote {told}, we list {theirs}")
+wavs, tag = cut(read(wavpack))
+path = os.path.join(work, "behind.mp3")
+run("lame", "--quiet", sound("behind", 2, 44100), path, "-b", "128")
+bare = read(path)
+with open(path, "ab") as f:
+    f.write(tag)
+first = decoded(path)
+check(len(first) > 100_000, "ffmpeg hears the loop")
+check(run(loop, "level", path, "-8", "-8").returncode == 0, "level refuses what ffmpeg wrote")
+check(decoded(path) != first, "ffmpeg hears no difference after level")
+ours = listed(path)
+check(ours.get("MP3GAIN_UNDO") == "+008,+008,N" and all(ours.get(k) == v for k, v in theirs.items()), f"after level we list {ours}")
+with open(wavpack, "wb") as f:
+    f.write(wavs + cut(read(path))[1])
+heard = by_ffmpeg(wavpack)
+check(heard.keys() == ours.keys(), f"ffmpeg reads {heard}, we list {ours}")
+check(heard.get("MP3GAIN_UNDO") == "+008,+008,N" and heard.get("TITLE") == "Fläche", f"ffmpeg reads {heard}")
+check(run(loop, "undo", path).returncode == 0, "undo refuses")
+check(cut(read(path))[0] == bare and listed(path) == theirs, "undo does not give back the loop and ffmpeg's items")
+check(decoded(path) == first, "ffmpeg hears another loop after undo")
 
 print(f"peers: {checks} checks, {failed} failed")
 sys.exit(failed != 0)

@@ -1,7 +1,8 @@
 //! The judge: the published Rust beside the proved library.
 //!
 //!     oracle record  [--seed N] [--check] [NAME..]    write the recorded answers that the repository replays without Rust
-//!     oracle compare [--seed N] [--count N] [NAME..]  compare both on generated inputs; the first difference ends it with status 1
+//!     oracle compare [--seed N] [--count N] [NAME..]  compare both on generated inputs; the first difference ends it with status 1;
+//!                                                     `--long` is ten times the count, a run of half an hour
 //!     oracle bench   [NAME..]                       time both sides in one run, and print their ratios
 //!
 //! NAME is a module of `cases`; without one, all of them. README.md says how to add one.
@@ -29,7 +30,7 @@ use tools::{Bench, Compare, Record};
 
 fn usage() -> ! {
     eprintln!(
-        "usage: oracle record [--seed N] [--check] [NAME..] | compare [--seed N] [--count N] [NAME..] | bench [NAME..]"
+        "usage: oracle record [--seed N] [--check] [NAME..] | compare [--seed N] [--count N | --long] [NAME..] | bench [NAME..]"
     );
     exit(2)
 }
@@ -43,6 +44,7 @@ fn main() {
         match arg.as_str() {
             "--seed" => seed = number(),
             "--count" => count = number(),
+            "--long" => count = 10_000_000,
             "--check" => check = true,
             name if cases::ALL.iter().any(|c| c.name == name) => names.push(name.to_string()),
             _ => usage(),
