@@ -4,6 +4,7 @@
 //!     oracle compare [--seed N] [--count N] [NAME..]  compare both on generated inputs; the first difference ends it with status 1;
 //!                                                     `--long` is ten times the count, a run of half an hour
 //!     oracle bench   [NAME..]                       time both sides in one run, and print their ratios
+//!     oracle once    [NAME..]                       run each side of each row of the bench once, between marks: `oracle/bench` counts with it
 //!
 //! NAME is a module of `cases`; without one, all of them. README.md says how to add one.
 
@@ -30,7 +31,7 @@ use tools::{Bench, Compare, Record};
 
 fn usage() -> ! {
     eprintln!(
-        "usage: oracle record [--seed N] [--check] [NAME..] | compare [--seed N] [--count N | --long] [NAME..] | bench [NAME..]"
+        "usage: oracle record [--seed N] [--check] [NAME..] | compare [--seed N] [--count N | --long] [NAME..] | bench [NAME..] | once [NAME..]"
     );
     exit(2)
 }
@@ -69,12 +70,14 @@ fn main() {
             }
             println!("oracle: {all} inputs, no difference");
         }
-        "bench" => {
-            let mut b = Bench::new();
+        "bench" | "once" => {
+            let mut b = Bench::new(command == "once");
             for case in chosen {
                 (case.bench)(&mut b);
             }
-            b.print();
+            if command == "bench" {
+                b.print();
+            }
         }
         _ => usage(),
     }

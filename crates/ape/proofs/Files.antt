@@ -13,10 +13,14 @@ use Rattle.replies.specs.Refusal.{Plan, no, yes}
 use Rattle.replies.specs.declared.Refusal.the-variants.{FileTooLong}
 use Rattle.frame.specs.Tail.{preamble, id3v1Mark, standsAt}
 use Rattle.items.specs.Items.{Item}
-use Rattle.ape.specs.Tag.{findFooter, footed, versionAt, sizeAt, countAt, areaAt, readItems, readTag}
+use Rattle.ape.specs.Tag.{blockBytes, findFooter, footed, versionAt, sizeAt, countAt, areaAt, readItems, readTag}
 use Rattle.ape.specs.Answers.{itemsPlan, readPlan}
 use Rattle.ape.specs.declared.Footer.{Footer}
 use Rattle.ape.specs.declared.Footer.the-variants.{At, Nowhere}
+
+pub length-block : (size count flags : ℕ) → length (blockBytes size count flags) ≡ 32
+unfolding blockBytes
+length-block size count flags = refl
 
 pub stands-long : (n : ℕ) (p s : List ℕ) → standsAt n p s ≡ true → n ≤ length s
 unfolding standsAt

@@ -12,11 +12,8 @@ use Rattle.lists.specs.Choice.{isSome}
 use Rattle.items.specs.Items.{Item, areaBytes, parse, itemsIn}
 use Rattle.items.proofs.Area.{area-items, count-items}
 use Rattle.ape.specs.Tag.{blockBytes, tagBytes, serialize}
+use Rattle.ape.proofs.Files.{length-block}
 use Rattle.ape_write.specs.Answers.{tagParts, tagLength}
-
-pub length-block : (size count flags : ℕ) → length (blockBytes size count flags) ≡ 32
-unfolding blockBytes
-length-block size count flags = refl
 
 pub length-parts : (area : List ℕ) (count : ℕ) → length (tagParts area count) ≡ length area + 64
 unfolding tagParts

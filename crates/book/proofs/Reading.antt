@@ -21,15 +21,12 @@ use Rattle.items.proofs.Area.{AllSane, parse-area, head-item, length-item, plai
 use Rattle.ape.specs.Tag.{blockBytes, headerFlags, footerFlags, tagBytes, serialize, findFooter, versionAt, sizeAt, countAt, areaAt, readItems, readTag, moved, split, fileOf, replaced}
 use Rattle.ape.specs.declared.Footer.{Footer}
 use Rattle.ape.specs.declared.Footer.the-variants.{At, Nowhere}
+use Rattle.ape.proofs.Files.{length-block}
 use Rattle.calls.specs.Gate.{fit, allValid, gateItems, passesGate, itemsOf}
 use Rattle.calls.proofs.Lists.{both}
 use Rattle.book.proofs.Sound.{Back, bare, id3, Good, Sound}
 
 -- ---- the footer
-
-pub length-block : (z n f : ℕ) → length (blockBytes z n f) ≡ 32
-unfolding blockBytes
-length-block z n f = refl
 
 block-mark : (z n f : ℕ) → standsAt 32 preamble (blockBytes z n f) ≡ true
 unfolding blockBytes standsAt startsWith

@@ -1,4 +1,4 @@
--- Laws of the items that a call leaves: refusal 6, and items that were written into a scratch array and are read back from it.
+-- Laws of the items that a call leaves: refusal 6, and how long they are.
 use Prim.Native.Nat.{ℕ, _+_, _-_, _≤_, _<_}
 use native.Mathlib.Omega.{arith}
 use mathlib.Core.Path.{_≡_, refl, sym, ap, _∙_}
@@ -15,7 +15,7 @@ use Rattle.lists.proofs.Places.{length-part}
 use Rattle.replies.specs.Refusal.{Plan, no, yes}
 use Rattle.replies.specs.declared.Refusal.the-variants.{TagTooLarge}
 use Rattle.items.specs.Items.{Item, areaBytes, parse, itemsIn}
-use Rattle.items.proofs.Area.{AllSane, parse-area, area-length}
+use Rattle.items.proofs.Area.{area-length}
 use Rattle.ape_write.specs.Answers.{roomPlan}
 use Rattle.calls.specs.Gate.{tagFits, itemsOf}
 use Rattle.edit.specs.Gate.{Passed, tagPlan}
@@ -36,18 +36,6 @@ module _ (file : List ℕ) (ts : List Item) (room : ℕ) where
   pub fits-tag : length ts ≤ 256 → length (areaBytes ts) ≤ 32768 → tagPlan file ts room ≡ roomPlan file ts room
   unfolding tagPlan tagFits roomPlan
   fits-tag h k = rw (le-leb _ _ h, le-leb _ _ k)
-
--- items that were written to the front of an array are read back from there
-pub read-back : (ts : List Item) (new old : List ℕ) (n c : ℕ) → new ≡ over (areaBytes ts) old → n ≡ length (areaBytes ts) → c ≡ length ts → AllSane ts
-    → length (areaBytes ts) < 4294967296 → parse c (take (n - 0) new) ≡ some ts
-read-back ts new old n c e f g s h =
-    ap (λ (l : List ℕ). parse c (take (n - 0) l)) e
-    ∙ ap (parse c) (take-at (areaBytes ts) _ (n - 0) (omega arith))
-    ∙ ap (λ (i : ℕ). parse i (areaBytes ts)) g
-    ∙ parse-area ts s h
-
-pub back-good : (c : ℕ) (s : List ℕ) {ts : List Item} → parse c s ≡ some ts → (isSome (parse c s) ≡ true) × (itemsIn c s ≡ ts)
-back-good c s e = rw e (refl, refl)
 
 -- the items of a file that is fit for editing have few bytes
 pub short-items : {s : List ℕ} {start end count : ℕ} → Passed s start end count → length (areaBytes (itemsOf s)) ≤ 32768

@@ -1,6 +1,6 @@
 // The tail and gain arithmetic of frame.rs: numbers of four bytes, ID3v1 blocks, where a tag starts, and how a gain moves.
 ghost use mathlib.Core.Path.{_≡_};
-ghost use Prim.Native.Nat.{_≤_, _<_, _+_};
+ghost use Prim.Native.Nat.{_≤_, _<_, _+_, min};
 ghost use lib.ListN.{length};
 ghost use Rattle.lists.specs.Le.{readU32};
 ghost use Rattle.integers.specs.Apart.{wholeOf};
@@ -95,24 +95,35 @@ pub fn ape_tag_start(file: &[u8], footer: usize) -> TagStart
     TagStart::At(start - 32)
 }
 
-// A gain moved within 0..255: 0 stays, all else stops at the ends.
+// A number of steps as a byte: no gain moves further.
+fn within_byte(by: u32, most: u8) -> u8
+    ensures { λ r. ⌜ r ≡ min by most ⌝ }
+{
+    if wide(most) < by {
+        return most;
+    }
+    by as u8
+}
+
+// A gain moved within 0..255: 0 stays, all else stops at the ends. It is reckoned in bytes, so that a list takes sixteen gains at once.
 fn saturating(current: u8, steps: Apart) -> u8
     ensures { λ r. ⌜ r ≡ adjust GainMode.Saturating (wholeOf steps) current ⌝ }
 {
-    let g = wide(current);
-    if g == 0 {
-        return 0;
-    }
     if steps.down {
-        if g <= steps.by {
+        let down = within_byte(steps.by, 254) + 1;
+        if current < down {
             return 0;
         }
-        return (g - 1 - steps.by) as u8;
+        return current - down;
     }
-    if 255 - g < steps.by {
+    if current == 0 {
+        return 0;
+    }
+    let up = within_byte(steps.by, 255);
+    if 255 - current < up {
         return 255;
     }
-    (g + steps.by) as u8
+    current + up
 }
 
 // A gain moved modulo 256.

@@ -7,12 +7,13 @@ use mathlib.Core.Bool.{Bool, true, false, cond, true≢false}
 use mathlib.Core.Option.{Option, none, some, Option·map}
 use mathlib.Core.List.{List, [], _∷_, _++_, append-assoc}
 use lib.ListN.{length, take, drop, length-append, length-drop, take-append-drop}
-use lib.Seq.{drop-append-add, take-append-seam, drop-append-seam, drop-drop, length-take-le}
+use lib.Seq.{drop-append-add, take-append-seam, drop-append-seam, drop-drop, length-take-le, take-at}
 use lib.Dec.{eqb, leb}
 use borrow.Author.Tests.{le-leb, lt-leb, leb-true, leb-false, eqb-false, eqb-true, eq-eqb, ne-eqb}
 use Rattle.lists.specs.Bytes.{Small, placeOf}
 use Rattle.lists.specs.Choice.{found, provided, isSome}
 use Rattle.lists.specs.Le.{u32le, readU32}
+use Rattle.lists.specs.Write.{over}
 use Rattle.lists.proofs.Places.{place-within, place-behind, small-drop}
 use Rattle.lists.proofs.Numbers.{read-here, read-drop, number-here}
 use Rattle.items.specs.Items.{Item, itemBytes, areaBytes, sizeOf, Head, headAt, head, plainHead, parse, itemsIn}
@@ -319,3 +320,17 @@ pub parse-none : (s : List ℕ) (ts : List Item) → parse 0 s ≡ some ts → t
 unfolding parse
 parse-none [] ts e = cc
 parse-none (x ∷ s) ts e = absurd (let z : _≡_ {A = ℕ} 0 1 = cc in omega arith)
+
+-- ---- an area at the front of an array
+
+-- items that were written there are read back
+pub read-back : (ts : List Item) (new old : List ℕ) (n c : ℕ) → new ≡ over (areaBytes ts) old → n ≡ length (areaBytes ts) → c ≡ length ts → AllSane ts
+    → length (areaBytes ts) < 4294967296 → parse c (take (n - 0) new) ≡ some ts
+read-back ts new old n c e f g s h =
+    ap (λ (l : List ℕ). parse c (take (n - 0) l)) e
+    ∙ ap (parse c) (take-at (areaBytes ts) _ (n - 0) (omega arith))
+    ∙ ap (λ (i : ℕ). parse i (areaBytes ts)) g
+    ∙ parse-area ts s h
+
+pub back-good : (c : ℕ) (s : List ℕ) {ts : List Item} → parse c s ≡ some ts → (isSome (parse c s) ≡ true) × (itemsIn c s ≡ ts)
+back-good c s e = rw e (refl, refl)

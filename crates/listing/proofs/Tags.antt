@@ -16,7 +16,7 @@ use Rattle.replies.specs.Refusal.{Plan, no, yes}
 use Rattle.replies.specs.declared.Refusal.{Refusal}
 use Rattle.decimal.specs.Writing.{decimal}
 use Rattle.items.specs.Items.{Item, areaBytes, parse, itemsIn}
-use Rattle.items.proofs.Area.{parse-area}
+use Rattle.items.proofs.Area.{read-back}
 use Rattle.ape.specs.Tag.{readTag}
 use Rattle.ape.specs.Answers.{readArea, readPlan, readAnswer, readBytes}
 use Rattle.ape.specs.declared.TagRead.{TagRead}
@@ -60,19 +60,17 @@ read-refused none e f = let z : _≡_ {A = ℕ} 0 1 = cc in absurd (omega arith)
 read-refused (some ts) e f = let z : _≡_ {A = ℕ} 0 1 = cc in absurd (omega arith)
 
 -- the items stand at the front of the array
-pub read-back : (file : List ℕ) → length file ≤ 16384 → {n l : ℕ} (x : Read (readTag file) n l) (new old : List ℕ) → new ≡ over (readArea (readTag file)) old
+pub items-back : (file : List ℕ) → length file ≤ 16384 → {n l : ℕ} (x : Read (readTag file) n l) (new old : List ℕ) → new ≡ over (readArea (readTag file)) old
     → (parse n (take (l - 0) new) ≡ some (x .items)) × (length (take (l - 0) new) ≡ l) × (l ≤ 49152)
-read-back file h {n} {l} x new old e =
+items-back file h {n} {l} x new old e =
     let f = tag-items file (x .items) (x .is) in
+    let w : new ≡ over (areaBytes (x .items)) old = e ∙ ap (λ o. over (readArea o) old) (x .is) in
     let t : take (l - 0) new ≡ areaBytes (x .items) =
-    ap (λ (s : List ℕ). take (l - 0) s) (e ∙ ap (λ o. over (readArea o) old) (x .is)) ∙ take-at (areaBytes (x .items)) _ (l - 0) (omega (arith, x .long)) in (
-      ap (parse n) t ∙ ap (λ (i : ℕ). parse i (areaBytes (x .items))) (x .counted) ∙ parse-area (x .items) (f .0) (omega (arith, f .1, h)),
+    ap (λ (s : List ℕ). take (l - 0) s) w ∙ take-at (areaBytes (x .items)) _ (l - 0) (omega (arith, x .long)) in (
+      read-back (x .items) new old l n w (x .long) (x .counted) (f .0) (omega (arith, f .1, h)),
       omega (arith, ap length t, x .long),
       omega (arith, f .1, h, x .long),
     )
-
-pub back-good : (n : ℕ) (s : List ℕ) {ts : List Item} → parse n s ≡ some ts → (isSome (parse n s) ≡ true) × (itemsIn n s ≡ ts)
-back-good n s e = rw e (refl, refl)
 
 pub long-listing : (file : List ℕ) → 16384 < length file → listing file ≡ 0x72 ∷ 0x65 ∷ 0x66 ∷ 0x75 ∷ 0x73 ∷ 0x65 ∷ 0x64 ∷ 0x3D ∷ 0x31 ∷ 0x0A ∷ []
 unfolding listing

@@ -37,7 +37,8 @@ use Rattle.calls.specs.Gate.{tagFits}
 use Rattle.calls.specs.Calls.{Level, Levelled, adjusted, storedUndo, agrees, booked, numbersFit, levelItems, countOf, isPeakKey, isThere, stepsFit, others, undoneLeft, undoneRight, setPlan, removePlan, levelPlan, undoPlan}
 use Rattle.calls.proofs.Lists.{both, and-of}
 use Rattle.book.proofs.Sound.{Good, Sound}
-use Rattle.book.proofs.Reading.{length-block, law-passes, law-items, law-replaced}
+use Rattle.ape.proofs.Files.{length-block}
+use Rattle.book.proofs.Reading.{law-passes, law-items, law-replaced}
 use Rattle.calls.proofs.Texts.{plain-valid}
 use Rattle.calls.proofs.Items.{not-by-undo, valid-without, valid-set, key-facts, level-sane, level-valid}
 use Rattle.reversal.specs.Run.{Edit, set, remove, keyOf, editItems, editPlan, onLeft, onRight}

@@ -13,7 +13,8 @@ use Rattle.items.proofs.ItemLaws.{area-without, sane-without, parse-sane}
 use Rattle.area_edit.specs.Edits.{dropped}
 use Rattle.area_edit.proofs.Plans.{Sized, sized, unsized}
 use Rattle.calls.specs.Gate.{itemsOf}
-use Rattle.edit.proofs.Rewriting.{read-back, back-good, short-items}
+use Rattle.items.proofs.Area.{read-back, back-good}
+use Rattle.edit.proofs.Rewriting.{short-items}
 use Rattle.edit.proofs.drop_items.Statement.{statement}
 use Rattle.edit.proofs.drop_items.Tie as tie
 

@@ -11,7 +11,8 @@ use Rattle.keys.proofs.Keys.{key-length}
 use Rattle.items.specs.Items.{Item, areaBytes, parse, itemsIn, setItem}
 use Rattle.items.proofs.ItemLaws.{area-set, sane-set, sane-key, parse-sane}
 use Rattle.calls.specs.Gate.{itemsOf}
-use Rattle.edit.proofs.Rewriting.{read-back, back-good, short-items}
+use Rattle.items.proofs.Area.{read-back, back-good}
+use Rattle.edit.proofs.Rewriting.{short-items}
 use Rattle.edit.proofs.set_item.Statement.{statement}
 use Rattle.edit.proofs.set_item.Tie as tie
 

@@ -13,43 +13,41 @@ use Rattle.frame.proofs.saturating.Tie as tie
 
 returns : tie.Need-returns
 returns c =
+    let g = c .before .before .before .args in
+    rw (c .before .before .if1 .taken) (omega (arith, adjust-down (g .steps .by) (g .current) (omega arith)))
+
+returns-2 : tie.Need-returns-2
+returns-2 c =
+    let g = c .before .before .before .args in
+    rw (c .before .before .if1 .taken) (omega (arith, adjust-down (g .steps .by) (g .current) (omega arith)))
+
+returns-3 : tie.Need-returns-3
+returns-3 c =
     let g = c .before .before .args in
     let e : g .current ≡ 0 = omega arith in
     sym (ap (adjust Saturating (wholeOf (g .steps))) e ∙ adjust-zero (wholeOf (g .steps)))
 
-returns-2 : tie.Need-returns-2
-returns-2 c =
-    let g = c .before .before .before .before .before .args in
-    rw (c .before .before .if2 .taken) (omega (arith, adjust-down (g .steps .by) (g .current) (omega arith)))
-
-returns-3 : tie.Need-returns-3
-returns-3 c =
-    let g = c .before .before .before .before .before .before .args in
-    rw (c .before .before .before .if2 .taken) (omega (arith, adjust-down (g .steps .by) (g .current) (omega arith)))
-
 returns-4 : tie.Need-returns-4
 returns-4 c =
-    let g = c .before .before .before .before .before .args in
-    rw (c .before .before .if2 .left) (omega (arith, adjust-up (g .steps .by) (g .current) (omega arith)))
+    let g = c .before .before .before .before .args in
+    rw (c .before .before .before .if1 .left) (omega (arith, adjust-up (g .steps .by) (g .current) (omega arith)))
 
 returns-5 : tie.Need-returns-5
 returns-5 c =
-    let g = c .before .before .before .before .before .before .args in
-    rw (c .before .before .before .if2 .left) (omega (arith, adjust-up (g .steps .by) (g .current) (omega arith)))
+    let g = c .before .before .before .before .args in
+    rw (c .before .before .before .if1 .left) (omega (arith, adjust-up (g .steps .by) (g .current) (omega arith)))
 
 pub saturating-spec : {M : Type 1} → statement M
 saturating-spec =
     tie.close
     (tie.spec
     (λ c κs. search needs)
+    (λ c. search needs)
     returns
     returns-2
-    (λ c. search needs)
-    (λ c. search needs)
-    (λ c. search needs)
     returns-3
+    (λ c κs. search needs)
     (λ c. search needs)
     returns-4
-    (λ c. search needs)
     (λ c. search needs)
     returns-5)

@@ -9,11 +9,10 @@ use lib.ListN.{length, take}
 use Rattle.lists.specs.Write.{part}
 use Rattle.lists.proofs.Places.{length-part}
 use Rattle.items.specs.Items.{Item, areaBytes, parse, itemsIn}
-use Rattle.items.proofs.Area.{count-items, area-length}
+use Rattle.items.proofs.Area.{count-items, area-length, read-back, back-good}
 use Rattle.items.proofs.ItemLaws.{parse-sane}
 use Rattle.calls.specs.Gate.{itemsOf}
 use Rattle.calls.specs.Calls.{Level}
-use Rattle.edit.proofs.Rewriting.{read-back, back-good}
 use Rattle.level_items.specs.Items.{rangedItems}
 use Rattle.level_items.proofs.Moved.{ranged-sane, ranged-short}
 use Rattle.level.proofs.write_file.Statement.{statement}

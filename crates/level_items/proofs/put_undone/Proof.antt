@@ -7,11 +7,10 @@ use native.Mathlib.Omega.{arith}
 use borrow.Author.Needs.{needs}
 use lib.ListN.{length, take}
 use Rattle.items.specs.Items.{Item, areaBytes, parse, itemsIn}
-use Rattle.items.proofs.Area.{count-items, area-length}
+use Rattle.items.proofs.Area.{count-items, area-length, read-back, back-good}
 use Rattle.items.proofs.ItemLaws.{parse-sane}
 use Rattle.calls.specs.Calls.{Level, shiftedItems}
 use Rattle.calls.proofs.Items.{shifted-sane}
-use Rattle.edit.proofs.Rewriting.{read-back, back-good}
 use Rattle.level_items.specs.Items.{undoneItems}
 use Rattle.level_items.proofs.Moved.{moved-short, undone-short}
 use Rattle.level_items.proofs.put_undone.Statement.{statement}

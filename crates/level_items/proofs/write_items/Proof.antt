@@ -7,10 +7,9 @@ use native.Mathlib.Omega.{arith}
 use borrow.Author.Needs.{needs}
 use lib.ListN.{length, take}
 use Rattle.items.specs.Items.{Item, areaBytes, parse, itemsIn}
-use Rattle.items.proofs.Area.{count-items, area-length}
+use Rattle.items.proofs.Area.{count-items, area-length, read-back, back-good}
 use Rattle.items.proofs.ItemLaws.{parse-sane}
 use Rattle.calls.specs.Calls.{Level}
-use Rattle.edit.proofs.Rewriting.{read-back, back-good}
 use Rattle.level_items.specs.Items.{undoneItems, rangedItems}
 use Rattle.level_items.proofs.Moved.{undone-sane, undone-short, ranged-short}
 use Rattle.level_items.proofs.write_items.Statement.{statement}

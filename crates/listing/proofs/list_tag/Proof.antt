@@ -11,11 +11,11 @@ use Rattle.lists.specs.Write.{over}
 use Rattle.lists.proofs.Wrote.{at-front}
 use Rattle.replies.specs.Refusal.{yes}
 use Rattle.items.specs.Items.{parse, itemsIn}
-use Rattle.items.proofs.Area.{parse-fits}
+use Rattle.items.proofs.Area.{parse-fits, back-good}
 use Rattle.ape.specs.Tag.{readTag}
 use Rattle.ape.specs.Answers.{readArea, readPlan, readAnswer, readBytes}
 use Rattle.listing.specs.Listing.{listed, listing}
-use Rattle.listing.proofs.Tags.{read-yes, short-listing, Read, read-items, read-none, read-refused, read-back, back-good, long-listing, none-listing}
+use Rattle.listing.proofs.Tags.{read-yes, short-listing, Read, read-items, read-none, read-refused, items-back, long-listing, none-listing}
 use Rattle.listing.proofs.list_tag.Statement.{statement}
 use Rattle.listing.proofs.list_tag.Tie as tie
 
@@ -51,7 +51,7 @@ there c = read-items (readTag (c .before .before .before .before .before .before
 
 back : (c : tie.After-known-told) → let n = c .before .t .given .0 .0 in let l = c .before .t .given .0 .1 .0 in
     (parse n (take (l - 0) (array (c .before .before .before .before))) ≡ some (there c .items)) × (length (take (l - 0) (array (c .before .before .before .before))) ≡ l) × (l ≤ 49152)
-back c = read-back (c .before .before .before .before .before .before .before .before .before .args .file .now) (c .before .before .before .before .before .before .before .if1 .left) (there c) (array (c .before .before .before .before)) (c .before .before .before .before .before .before .scratch .result) (wrote (c .before .before .before .before))
+back c = items-back (c .before .before .before .before .before .before .before .before .before .args .file .now) (c .before .before .before .before .before .before .before .if1 .left) (there c) (array (c .before .before .before .before)) (c .before .before .before .before .before .before .scratch .result) (wrote (c .before .before .before .before))
 
 part-put-listed-end : tie.Need-part-put-listed-end
 part-put-listed-end c = let h = back (c .before .before) .2 in search needs
