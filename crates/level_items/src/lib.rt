@@ -4,13 +4,14 @@ ghost use mathlib.Core.Bool.{true};
 ghost use Prim.Native.Nat.{_≤_};
 ghost use lib.ListN.{length};
 ghost use Rattle.lists.specs.Choice.{isSome};
+ghost use Rattle.lists.specs.Write.{over};
 ghost use Rattle.replies.specs.Limits.{fileLimit};
 ghost use Rattle.keys.specs.Keys.{undoKey, minmaxKey};
 ghost use Rattle.values.specs.Undo.{formatUndo};
 ghost use Rattle.values.specs.Range.{formatRange};
 ghost use Rattle.items.specs.Items.{areaBytes, parse, itemsIn, setItem};
 ghost use Rattle.calls.specs.Calls.{wraps as wrapsBy, shiftedItems, countOf, isPeakKey};
-ghost use Rattle.level_items.specs.Items.{Wrote, undoneItems, rangedItems};
+ghost use Rattle.level_items.specs.Items.{Wrote, rangedItems};
 use area_edit::Drop;
 use area_edit::Measure;
 use area_edit::Measured;
@@ -93,26 +94,7 @@ fn put_moved(
     }
 }
 
-// Then sets the undo item.
-fn put_undone(
-    area: &[u8],
-    count: usize,
-    left: GainSteps,
-    right: GainSteps,
-    mode: GainMode,
-    undo: UndoValues,
-    out: &mut [u8],
-) -> Measure
-    requires { ⌜ (isSome (parse count (now area)) ≡ true) × (count ≤ 256) × (length (now area) ≤ 32768) × (66048 ≤ length (now out)) ⌝ }
-    ensures { λ r. ⌜ Wrote (undoneItems (record { left = left .0; right = right .0; mode = mode }) undo (itemsIn count (now (area .entry)))) (now (out .entry)) r (now (out .exit)) ⌝ }
-{
-    let mut moved = edit::scratch();
-    let m = put_moved(area, count, left, right, mode, &mut moved);
-    let n = m.length;
-    put_undo(&moved[0..n], m.count, undo, mode, out)
-}
-
-// Writes the items that level leaves of those of a file that is fit for editing to the front of `out`.
+// Writes the items that level leaves of those of a file that is fit for editing to the front of `out`. The moved ones stand there first.
 pub fn write_items(
     area: &[u8],
     count: usize,
@@ -124,12 +106,14 @@ pub fn write_items(
     out: &mut [u8],
 ) -> Measure
     requires { ⌜ (isSome (parse count (now area)) ≡ true) × (count ≤ 256) × (length (now area) ≤ 32768) × (66048 ≤ length (now out)) ⌝ }
-    ensures { λ r. ⌜ Wrote (rangedItems (record { left = left .0; right = right .0; mode = mode }) undo range (itemsIn count (now (area .entry)))) (now (out .entry)) r (now (out .exit)) ⌝ }
+    ensures { λ r. ⌜ Wrote (rangedItems (record { left = left .0; right = right .0; mode = mode }) undo range (itemsIn count (now (area .entry)))) (over (areaBytes (shiftedItems (record { left = left .0; right = right .0; mode = mode }) (itemsIn count (now (area .entry))))) (now (out .entry))) r (now (out .exit)) ⌝ }
 {
-    let mut undone = edit::scratch();
-    let m = put_undone(area, count, left, right, mode, undo, &mut undone);
-    let n = m.length;
-    put_range(&undone[0..n], m.count, range, out)
+    let moved = put_moved(area, count, left, right, mode, out);
+    let m = moved.length;
+    let mut with_undo = edit::scratch();
+    let undone = put_undo(&out[0..m], moved.count, undo, mode, &mut with_undo);
+    let n = undone.length;
+    put_range(&with_undo[0..n], undone.count, range, out)
 }
 
 // The places of the two peak keys in the table of eight.

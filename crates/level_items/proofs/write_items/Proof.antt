@@ -1,4 +1,4 @@
--- The undo item is set in a scratch array, and the items are read back from it.
+-- The moved items are read back from the output, those with the undo item from a scratch array.
 use mathlib.Core.Path.{_≡_, refl, sym, ap, _∙_}
 use mathlib.Core.Option.{some}
 use mathlib.Core.List.{List}
@@ -6,12 +6,16 @@ use Prim.Native.Nat.{ℕ, _-_, _≤_, _<_}
 use native.Mathlib.Omega.{arith}
 use borrow.Author.Needs.{needs}
 use lib.ListN.{length, take}
-use Rattle.items.specs.Items.{Item, areaBytes, parse, itemsIn}
+use Rattle.keys.specs.Keys.{undoKey}
+use Rattle.values.specs.Undo.{formatUndo}
+use Rattle.items.specs.Items.{Item, areaBytes, parse, itemsIn, setItem}
 use Rattle.items.proofs.Area.{count-items, area-length, read-back, back-good}
 use Rattle.items.proofs.ItemLaws.{parse-sane}
-use Rattle.calls.specs.Calls.{Level}
-use Rattle.level_items.specs.Items.{undoneItems, rangedItems}
-use Rattle.level_items.proofs.Moved.{undone-sane, undone-short, ranged-short}
+use Rattle.area_edit.specs.declared.Measure.{Measure}
+use Rattle.calls.specs.Calls.{Level, wraps, shiftedItems}
+use Rattle.calls.proofs.Items.{shifted-sane}
+use Rattle.level_items.specs.Items.{Wrote, undoneItems, rangedItems}
+use Rattle.level_items.proofs.Moved.{moved-short, undone-sane, undone-short, ranged-short}
 use Rattle.level_items.proofs.write_items.Statement.{statement}
 use Rattle.level_items.proofs.write_items.Tie as tie
 
@@ -28,51 +32,102 @@ few b = omega (arith, count-items (b .args .count) (b .args .area .now) (b .pre 
 small : (b : tie.Start) → length (areaBytes (there b)) ≤ 32768
 small b = omega (arith, area-length (b .args .count) (b .args .area .now) (b .pre .0), b .pre .2)
 
-put-undone-requires : tie.Need-put-undone-requires
-put-undone-requires c κs =
+put-moved-requires : tie.Need-put-moved-requires
+put-moved-requires c κs =
+    let b = c .before .before .before in
+    (b .pre .0, omega (arith, moved-short (asked b) (there b) (few b) (small b), b .pre .3))
+
+-- the output, with the moved items at its front
+abbrev moved : tie.After-put-moved → List ℕ
+moved c = c .put-moved .last .1 .1 .1 .1 .1 .0
+
+moved-stand : (c : tie.After-put-moved) → parse (c .put-moved .result .count) (take (c .put-moved .result .length - 0) (moved c)) ≡ some (shiftedItems (asked (c .before .before .before .before)) (there (c .before .before .before .before)))
+moved-stand c =
     let b = c .before .before .before .before in
-    (b .pre .0, b .pre .1, b .pre .2, omega (arith, c .before .scratch .ensures))
+    let w = c .put-moved .ensures in
+    read-back (shiftedItems (asked b) (there b)) (moved c) _ (c .put-moved .result .length) (c .put-moved .result .count) (w .2) (w .1) (w .0)
+    (shifted-sane (asked b) (there b) (parse-sane (b .args .count) (b .args .area .now)))
+    (omega (arith, moved-short (asked b) (there b) (few b) (small b)))
+
+part-put-undo-end : tie.Need-part-put-undo-end
+part-put-undo-end c =
+    let b = c .before .before .before .before .before .before .before .before in
+    let h : c .before .before .before .before .put-moved .result .length ≤ length (b .args .out .now) = omega (arith, c .before .before .before .before .put-moved .ensures .1, moved-short (asked b) (there b) (few b) (small b), b .pre .3) in
+    search needs
+
+put-undo-requires : tie.Need-put-undo-requires
+unfolding undoneItems
+put-undo-requires c κs =
+    let p = c .before .before .before .before .before .before in
+    let b = c .before .before .before .before .before .before .before .before .before .before in
+    let g = back-good (p .put-moved .result .count) (take (p .put-moved .result .length - 0) (moved p)) (moved-stand p) in
+    (g .0, rw (g .1) (omega (arith, undone-short (asked b) (b .args .undo) (there b) (few b) (small b), c .before .before .before .scratch .ensures)))
+
+-- the scratch array, with the items after the undo item was set
+abbrev undone : tie.After-put-undo → List ℕ
+undone c = c .put-undo .last .1 .1 .1 .1 .0
+
+wrote-same : (g : List Item → List Item) {us ts : List Item} (out : List ℕ) (r : Measure) {after : List ℕ} → us ≡ ts → Wrote (g us) out r after → Wrote (g ts) out r after
+wrote-same g out r e w = rw (← e) w
+
+-- it holds what put_undo makes of the moved ones
+module _ (c : tie.After-put-undo) where
+  abbrev b : tie.Start
+  b = c .before .before .before .before .before .before .before .before .before .before .before
+
+  abbrev p : tie.After-put-moved
+  p = c .before .before .before .before .before .before .before
+
+  found : itemsIn (p .put-moved .result .count) (take (p .put-moved .result .length - 0) (moved p)) ≡ shiftedItems (asked b) (there b)
+  found = back-good (p .put-moved .result .count) (take (p .put-moved .result .length - 0) (moved p)) (moved-stand p) .1
+
+  abbrev with-undo : List Item → List Item
+  with-undo ts = setItem undoKey (formatUndo (b .args .undo .left) (b .args .undo .right) (wraps (b .args .mode))) ts
+
+  undone-length : c .put-undo .result .length ≡ length (areaBytes (undoneItems (asked b) (b .args .undo) (there b)))
+  unfolding undoneItems
+  undone-length = wrote-same with-undo _ (c .put-undo .result) found (c .put-undo .ensures) .1
+
+  undone-stand : parse (c .put-undo .result .count) (take (c .put-undo .result .length - 0) (undone c)) ≡ some (undoneItems (asked b) (b .args .undo) (there b))
+  unfolding undoneItems
+  undone-stand =
+      let w = wrote-same with-undo _ (c .put-undo .result) found (c .put-undo .ensures) in
+      read-back (undoneItems (asked b) (b .args .undo) (there b)) (undone c) _ (c .put-undo .result .length) (c .put-undo .result .count) (w .2) (w .1) (w .0)
+      (undone-sane (asked b) (b .args .undo) (there b) (parse-sane (b .args .count) (b .args .area .now)))
+      (omega (arith, undone-short (asked b) (b .args .undo) (there b) (few b) (small b)))
 
 part-put-range-end : tie.Need-part-put-range-end
 part-put-range-end c =
-    let b = c .before .before .before .before .before .before .before in
-    let h : c .before .before .put-undone .result .length ≤ 66048 = omega (arith, c .before .before .put-undone .ensures .1, undone-short (asked b) (b .args .undo) (there b) (few b) (small b)) in
+    let b = c .before .before .before .before .before .before .before .before .before .before .before .before .before in
+    let h : c .before .before .put-undo .result .length ≤ 66048 = omega (arith, undone-length (c .before .before), undone-short (asked b) (b .args .undo) (there b) (few b) (small b)) in
     search needs
-
--- what stands in the scratch array
-abbrev array : tie.After-put-undone → List ℕ
-array c = c .put-undone .last .1 .1 .1 .1 .1 .1 .0
-
-stands : (c : tie.After-put-undone) → parse (c .put-undone .result .count) (take (c .put-undone .result .length - 0) (array c)) ≡ some (undoneItems (asked (c .before .before .before .before .before)) (c .before .before .before .before .before .args .undo) (there (c .before .before .before .before .before)))
-stands c =
-    let b = c .before .before .before .before .before in
-    let w = c .put-undone .ensures in
-    read-back (undoneItems (asked b) (b .args .undo) (there b)) (array c) _ (c .put-undone .result .length) (c .put-undone .result .count) (w .2) (w .1) (w .0)
-    (undone-sane (asked b) (b .args .undo) (there b) (parse-sane (b .args .count) (b .args .area .now)))
-    (omega (arith, undone-short (asked b) (b .args .undo) (there b) (few b) (small b)))
 
 put-range-requires : tie.Need-put-range-requires
 unfolding rangedItems
 put-range-requires c κs =
     let p = c .before .before .before .before in
-    let b = c .before .before .before .before .before .before .before .before .before in
-    let g = back-good (p .put-undone .result .count) (take (p .put-undone .result .length - 0) (array p)) (stands p) in
+    let b = c .before .before .before .before .before .before .before .before .before .before .before .before .before .before .before in
+    let g = back-good (p .put-undo .result .count) (take (p .put-undo .result .length - 0) (undone p)) (undone-stand p) in
     (g .0, rw (g .1) (omega (arith, ranged-short (asked b) (b .args .undo) (b .args .range) (there b) (few b) (small b), b .pre .3)))
 
 returns : tie.Need-returns
 unfolding rangedItems
 returns c =
     let p = c .before .before .before .before .before .before .before in
-    let g = back-good (p .put-undone .result .count) (take (p .put-undone .result .length - 0) (array p)) (stands p) in
-    rw (← g .1) (c .before .before .put-range .ensures)
+    let g = back-good (p .put-undo .result .count) (take (p .put-undo .result .length - 0) (undone p)) (undone-stand p) in
+    rw (← g .1, ← (c .before .before .before .before .before .before .before .before .before .before .before .before .before .before .put-moved .ensures .2)) (c .before .before .put-range .ensures)
 
 pub write-items-spec : {M : Type 1} → statement M
 write-items-spec =
     tie.close
     (tie.spec
+    put-moved-requires
     (λ c κs. search needs)
     (λ c. search needs)
-    put-undone-requires
+    (λ c. search needs)
+    part-put-undo-end
+    (λ c. search needs)
+    put-undo-requires
     (λ c. search needs)
     (λ c. search needs)
     part-put-range-end
