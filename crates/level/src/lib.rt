@@ -1,7 +1,7 @@
 // Level: every gain moved, and the file with the items that say so.
 ghost use mathlib.Core.Path.{_≡_};
 ghost use mathlib.Core.Bool.{true, cond};
-ghost use Prim.Native.Nat.{_≤_};
+ghost use Prim.Native.Nat.{_≤_, _+_, _-_, _*_};
 ghost use lib.ListN.{length};
 ghost use Rattle.lists.specs.Choice.{isSome};
 ghost use Rattle.lists.specs.Write.{over};
@@ -94,6 +94,46 @@ fn filed(file: &[u8], area: &[u8], count: usize, out: &mut [u8]) -> LevelAnswer
     }
 }
 
+// Room for the items of a small tag, as most are: it costs less to clear than that for any tag.
+fn small_scratch() -> [u8; 4096]
+    ensures { λ r. ⌜ 4096 ≡ length r ⌝ }
+{
+    [0u8; 4096]
+}
+
+// The file with the items that level leaves, which are made in `work` and `new`.
+fn write_file_in(
+    file: &[u8],
+    start: usize,
+    end: usize,
+    count: usize,
+    left_steps: GainSteps,
+    right_steps: GainSteps,
+    mode: GainMode,
+    undo: UndoValues,
+    range: Range,
+    work: &mut [u8],
+    new: &mut [u8],
+    out: &mut [u8],
+) -> LevelAnswer
+    requires { ⌜ (Passed (now file) start end count) × (length (now file) ≤ 16777216) × (end - start + 32 * count + 76 ≤ length (now work)) × (end - start + 32 * count + 76 ≤ length (now new)) ⌝ }
+    ensures { λ r. ⌜ (r ≡ filedAnswer (tagPlan (now (file .entry)) (rangedItems (record { left = «left_steps» .0; right = «right_steps» .0; mode = mode }) undo range (itemsOf (now (file .entry)))) (length (now (out .entry)))) (countOf isPeakKey (rangedItems (record { left = «left_steps» .0; right = «right_steps» .0; mode = mode }) undo range (itemsOf (now (file .entry)))))) × (now (out .exit) ≡ over (writtenBytes (tagPlan (now (file .entry)) (rangedItems (record { left = «left_steps» .0; right = «right_steps» .0; mode = mode }) undo range (itemsOf (now (file .entry)))) (length (now (out .entry))))) (now (out .entry))) ⌝ }
+{
+    let m = level_items::write_items(
+        &file[start..end],
+        count,
+        left_steps,
+        right_steps,
+        mode,
+        undo,
+        range,
+        work,
+        new,
+    );
+    let n = m.length;
+    filed(file, &new[0..n], m.count, out)
+}
+
 // The file with the items that level leaves.
 fn write_file(
     file: &[u8],
@@ -110,20 +150,40 @@ fn write_file(
     requires { ⌜ (Passed (now file) start end count) × (length (now file) ≤ 16777216) ⌝ }
     ensures { λ r. ⌜ (r ≡ filedAnswer (tagPlan (now (file .entry)) (rangedItems (record { left = «left_steps» .0; right = «right_steps» .0; mode = mode }) undo range (itemsOf (now (file .entry)))) (length (now (out .entry)))) (countOf isPeakKey (rangedItems (record { left = «left_steps» .0; right = «right_steps» .0; mode = mode }) undo range (itemsOf (now (file .entry)))))) × (now (out .exit) ≡ over (writtenBytes (tagPlan (now (file .entry)) (rangedItems (record { left = «left_steps» .0; right = «right_steps» .0; mode = mode }) undo range (itemsOf (now (file .entry)))) (length (now (out .entry))))) (now (out .entry))) ⌝ }
 {
-    let area = &file[start..end];
+    if end - start + 32 * count <= 4020 {
+        let mut work = small_scratch();
+        let mut new = small_scratch();
+        return write_file_in(
+            file,
+            start,
+            end,
+            count,
+            left_steps,
+            right_steps,
+            mode,
+            undo,
+            range,
+            &mut work,
+            &mut new,
+            out,
+        );
+    }
+    let mut work = edit::scratch();
     let mut new = edit::scratch();
-    let m = level_items::write_items(
-        area,
+    write_file_in(
+        file,
+        start,
+        end,
         count,
         left_steps,
         right_steps,
         mode,
         undo,
         range,
+        &mut work,
         &mut new,
-    );
-    let n = m.length;
-    filed(file, &new[0..n], m.count, out)
+        out,
+    )
 }
 
 // Level with these undo numbers in a file that is fit for editing. The gains move last.

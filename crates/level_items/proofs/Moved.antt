@@ -56,19 +56,19 @@ ranged-sane l u r ts s = sane-set minmaxKey (formatRange r) (undoneItems l u ts)
 
 -- ---- they are short
 
-pub moved-short : (l : Level) (ts : List Item) → length ts ≤ 256 → length (areaBytes ts) ≤ 32768 → length (areaBytes (shiftedItems l ts)) ≤ 40960
+pub moved-short : (l : Level) (ts : List Item) → length (areaBytes (shiftedItems l ts)) ≤ length (areaBytes ts) + 32 * length ts
 unfolding shiftedItems
-moved-short l ts c b = go (sameStep (l .left) (l .right)) refl
+moved-short l ts = go (sameStep (l .left) (l .right)) refl
   where
-    go : (a : Bool) → sameStep (l .left) (l .right) ≡ a → length (areaBytes (cond a (shiftStoredGain (l .mode) (l .left) ts) (without isUndone ts))) ≤ 40960
+    go : (a : Bool) → sameStep (l .left) (l .right) ≡ a → length (areaBytes (cond a (shiftStoredGain (l .mode) (l .left) ts) (without isUndone ts))) ≤ length (areaBytes ts) + 32 * length ts
     go true e = omega (arith, shift-bytes (l .mode) (l .left) ts)
     go false e = omega (arith, area-without isUndone ts)
 
-pub undone-short : (l : Level) (u : UndoValues) (ts : List Item) → length ts ≤ 256 → length (areaBytes ts) ≤ 32768 → length (areaBytes (undoneItems l u ts)) ≤ 41006
+pub undone-short : (l : Level) (u : UndoValues) (ts : List Item) → length (areaBytes (undoneItems l u ts)) ≤ length (areaBytes ts) + 32 * length ts + 46
 unfolding undoneItems undoKey
-undone-short l u ts c b =
-    omega (arith, area-set undoKey (formatUndo (u .left) (u .right) (wraps (l .mode))) (shiftedItems l ts), moved-short l ts c b, length-undo (u .left) (u .right) (wraps (l .mode)))
+undone-short l u ts =
+    omega (arith, area-set undoKey (formatUndo (u .left) (u .right) (wraps (l .mode))) (shiftedItems l ts), moved-short l ts, length-undo (u .left) (u .right) (wraps (l .mode)))
 
-pub ranged-short : (l : Level) (u : UndoValues) (r : Range) (ts : List Item) → length ts ≤ 256 → length (areaBytes ts) ≤ 32768 → length (areaBytes (rangedItems l u r ts)) ≤ 41036
+pub ranged-short : (l : Level) (u : UndoValues) (r : Range) (ts : List Item) → length (areaBytes (rangedItems l u r ts)) ≤ length (areaBytes ts) + 32 * length ts + 76
 unfolding rangedItems minmaxKey
-ranged-short l u r ts c b = omega (arith, area-set minmaxKey (formatRange r) (undoneItems l u ts), undone-short l u ts c b, length-range r)
+ranged-short l u r ts = omega (arith, area-set minmaxKey (formatRange r) (undoneItems l u ts), undone-short l u ts, length-range r)

@@ -1,7 +1,7 @@
 // The items that level leaves in a tag: stored values moved or dropped, then the undo item and the range of all gains set.
 ghost use mathlib.Core.Path.{_≡_};
 ghost use mathlib.Core.Bool.{true};
-ghost use Prim.Native.Nat.{_≤_};
+ghost use Prim.Native.Nat.{_≤_, _+_, _*_};
 ghost use lib.ListN.{length};
 ghost use Rattle.lists.specs.Choice.{isSome};
 ghost use Rattle.lists.specs.Write.{over};
@@ -11,7 +11,7 @@ ghost use Rattle.values.specs.Undo.{formatUndo};
 ghost use Rattle.values.specs.Range.{formatRange};
 ghost use Rattle.items.specs.Items.{areaBytes, parse, itemsIn, setItem};
 ghost use Rattle.calls.specs.Calls.{wraps as wrapsBy, shiftedItems, countOf, isPeakKey};
-ghost use Rattle.level_items.specs.Items.{Wrote, rangedItems};
+ghost use Rattle.level_items.specs.Items.{Wrote, undoneItems, rangedItems};
 use area_edit::Drop;
 use area_edit::Measure;
 use area_edit::Measured;
@@ -94,7 +94,8 @@ fn put_moved(
     }
 }
 
-// Writes the items that level leaves of those of a file that is fit for editing to the front of `out`. The moved ones stand there first.
+// Writes the items that level leaves of those of a file that is fit for editing to the front of `out`. The moved ones stand there first,
+// and those with the undo item in `work`: each text that moves or is set needs at most so much more room.
 pub fn write_items(
     area: &[u8],
     count: usize,
@@ -103,17 +104,17 @@ pub fn write_items(
     mode: GainMode,
     undo: UndoValues,
     range: Range,
+    work: &mut [u8],
     out: &mut [u8],
 ) -> Measure
-    requires { ⌜ (isSome (parse count (now area)) ≡ true) × (count ≤ 256) × (length (now area) ≤ 32768) × (66048 ≤ length (now out)) ⌝ }
-    ensures { λ r. ⌜ Wrote (rangedItems (record { left = left .0; right = right .0; mode = mode }) undo range (itemsIn count (now (area .entry)))) (over (areaBytes (shiftedItems (record { left = left .0; right = right .0; mode = mode }) (itemsIn count (now (area .entry))))) (now (out .entry))) r (now (out .exit)) ⌝ }
+    requires { ⌜ (isSome (parse count (now area)) ≡ true) × (count ≤ 256) × (length (now area) ≤ 32768) × (length (now area) + 32 * count + 76 ≤ length (now work)) × (length (now area) + 32 * count + 76 ≤ length (now out)) ⌝ }
+    ensures { λ r. ⌜ (Wrote (rangedItems (record { left = left .0; right = right .0; mode = mode }) undo range (itemsIn count (now (area .entry)))) (over (areaBytes (shiftedItems (record { left = left .0; right = right .0; mode = mode }) (itemsIn count (now (area .entry))))) (now (out .entry))) r (now (out .exit))) × (now (work .exit) ≡ over (areaBytes (undoneItems (record { left = left .0; right = right .0; mode = mode }) undo (itemsIn count (now (area .entry))))) (now (work .entry))) ⌝ }
 {
     let moved = put_moved(area, count, left, right, mode, out);
     let m = moved.length;
-    let mut with_undo = edit::scratch();
-    let undone = put_undo(&out[0..m], moved.count, undo, mode, &mut with_undo);
+    let undone = put_undo(&out[0..m], moved.count, undo, mode, work);
     let n = undone.length;
-    put_range(&with_undo[0..n], undone.count, range, out)
+    put_range(&work[0..n], undone.count, range, out)
 }
 
 // The places of the two peak keys in the table of eight.

@@ -1,4 +1,4 @@
--- The moved items are read back from the output, those with the undo item from a scratch array.
+-- The moved items are read back from the output, those with the undo item from the other array.
 use mathlib.Core.Path.{_≡_, refl, sym, ap, _∙_}
 use mathlib.Core.Option.{some}
 use mathlib.Core.List.{List}
@@ -26,44 +26,45 @@ asked b = record { left = b .args .left .0; right = b .args .right .0; mode = b 
 abbrev there : tie.Start → List Item
 there b = itemsIn (b .args .count) (b .args .area .now)
 
-few : (b : tie.Start) → length (there b) ≤ 256
-few b = omega (arith, count-items (b .args .count) (b .args .area .now) (b .pre .0), b .pre .1)
+-- their number and size
+few : (b : tie.Start) → length (there b) ≡ b .args .count
+few b = count-items (b .args .count) (b .args .area .now) (b .pre .0)
 
-small : (b : tie.Start) → length (areaBytes (there b)) ≤ 32768
-small b = omega (arith, area-length (b .args .count) (b .args .area .now) (b .pre .0), b .pre .2)
+small : (b : tie.Start) → length (areaBytes (there b)) ≡ length (b .args .area .now)
+small b = area-length (b .args .count) (b .args .area .now) (b .pre .0)
 
 put-moved-requires : tie.Need-put-moved-requires
 put-moved-requires c κs =
-    let b = c .before .before .before in
-    (b .pre .0, omega (arith, moved-short (asked b) (there b) (few b) (small b), b .pre .3))
+    let b = c .before .before .before .before in
+    (b .pre .0, omega (arith, moved-short (asked b) (there b), few b, small b, b .pre .4))
 
 -- the output, with the moved items at its front
 abbrev moved : tie.After-put-moved → List ℕ
 moved c = c .put-moved .last .1 .1 .1 .1 .1 .0
 
-moved-stand : (c : tie.After-put-moved) → parse (c .put-moved .result .count) (take (c .put-moved .result .length - 0) (moved c)) ≡ some (shiftedItems (asked (c .before .before .before .before)) (there (c .before .before .before .before)))
+moved-stand : (c : tie.After-put-moved) → parse (c .put-moved .result .count) (take (c .put-moved .result .length - 0) (moved c)) ≡ some (shiftedItems (asked (c .before .before .before .before .before)) (there (c .before .before .before .before .before)))
 moved-stand c =
-    let b = c .before .before .before .before in
+    let b = c .before .before .before .before .before in
     let w = c .put-moved .ensures in
     read-back (shiftedItems (asked b) (there b)) (moved c) _ (c .put-moved .result .length) (c .put-moved .result .count) (w .2) (w .1) (w .0)
     (shifted-sane (asked b) (there b) (parse-sane (b .args .count) (b .args .area .now)))
-    (omega (arith, moved-short (asked b) (there b) (few b) (small b)))
+    (omega (arith, moved-short (asked b) (there b), few b, small b, b .pre .1, b .pre .2))
 
 part-put-undo-end : tie.Need-part-put-undo-end
 part-put-undo-end c =
     let b = c .before .before .before .before .before .before .before .before in
-    let h : c .before .before .before .before .put-moved .result .length ≤ length (b .args .out .now) = omega (arith, c .before .before .before .before .put-moved .ensures .1, moved-short (asked b) (there b) (few b) (small b), b .pre .3) in
+    let h : c .before .before .before .put-moved .result .length ≤ length (b .args .out .now) = omega (arith, c .before .before .before .put-moved .ensures .1, moved-short (asked b) (there b), few b, small b, b .pre .4) in
     search needs
 
 put-undo-requires : tie.Need-put-undo-requires
 unfolding undoneItems
 put-undo-requires c κs =
-    let p = c .before .before .before .before .before .before in
+    let p = c .before .before .before .before .before in
     let b = c .before .before .before .before .before .before .before .before .before .before in
     let g = back-good (p .put-moved .result .count) (take (p .put-moved .result .length - 0) (moved p)) (moved-stand p) in
-    (g .0, rw (g .1) (omega (arith, undone-short (asked b) (b .args .undo) (there b) (few b) (small b), c .before .before .before .scratch .ensures)))
+    (g .0, rw (g .1) (omega (arith, undone-short (asked b) (b .args .undo) (there b), few b, small b, b .pre .3)))
 
--- the scratch array, with the items after the undo item was set
+-- the other array, with the items after the undo item was set
 abbrev undone : tie.After-put-undo → List ℕ
 undone c = c .put-undo .last .1 .1 .1 .1 .0
 
@@ -76,7 +77,7 @@ module _ (c : tie.After-put-undo) where
   b = c .before .before .before .before .before .before .before .before .before .before .before
 
   abbrev p : tie.After-put-moved
-  p = c .before .before .before .before .before .before .before
+  p = c .before .before .before .before .before .before
 
   found : itemsIn (p .put-moved .result .count) (take (p .put-moved .result .length - 0) (moved p)) ≡ shiftedItems (asked b) (there b)
   found = back-good (p .put-moved .result .count) (take (p .put-moved .result .length - 0) (moved p)) (moved-stand p) .1
@@ -84,53 +85,51 @@ module _ (c : tie.After-put-undo) where
   abbrev with-undo : List Item → List Item
   with-undo ts = setItem undoKey (formatUndo (b .args .undo .left) (b .args .undo .right) (wraps (b .args .mode))) ts
 
-  undone-length : c .put-undo .result .length ≡ length (areaBytes (undoneItems (asked b) (b .args .undo) (there b)))
+  wrote-undone : Wrote (undoneItems (asked b) (b .args .undo) (there b)) (b .args .work .now) (c .put-undo .result) (undone c)
   unfolding undoneItems
-  undone-length = wrote-same with-undo _ (c .put-undo .result) found (c .put-undo .ensures) .1
+  wrote-undone = wrote-same with-undo _ (c .put-undo .result) found (c .put-undo .ensures)
 
   undone-stand : parse (c .put-undo .result .count) (take (c .put-undo .result .length - 0) (undone c)) ≡ some (undoneItems (asked b) (b .args .undo) (there b))
-  unfolding undoneItems
   undone-stand =
-      let w = wrote-same with-undo _ (c .put-undo .result) found (c .put-undo .ensures) in
+      let w = wrote-undone in
       read-back (undoneItems (asked b) (b .args .undo) (there b)) (undone c) _ (c .put-undo .result .length) (c .put-undo .result .count) (w .2) (w .1) (w .0)
       (undone-sane (asked b) (b .args .undo) (there b) (parse-sane (b .args .count) (b .args .area .now)))
-      (omega (arith, undone-short (asked b) (b .args .undo) (there b) (few b) (small b)))
+      (omega (arith, undone-short (asked b) (b .args .undo) (there b), few b, small b, b .pre .1, b .pre .2))
 
 part-put-range-end : tie.Need-part-put-range-end
 part-put-range-end c =
-    let b = c .before .before .before .before .before .before .before .before .before .before .before .before .before in
-    let h : c .before .before .put-undo .result .length ≤ 66048 = omega (arith, undone-length (c .before .before), undone-short (asked b) (b .args .undo) (there b) (few b) (small b)) in
+    let b = c .before .before .before .before .before .before .before .before .before .before .before .before .before .before in
+    let h : c .before .before .before .put-undo .result .length ≤ length (b .args .work .now) = omega (arith, wrote-undone (c .before .before .before) .1, undone-short (asked b) (b .args .undo) (there b), few b, small b, b .pre .3) in
     search needs
 
 put-range-requires : tie.Need-put-range-requires
 unfolding rangedItems
 put-range-requires c κs =
-    let p = c .before .before .before .before in
-    let b = c .before .before .before .before .before .before .before .before .before .before .before .before .before .before .before in
+    let p = c .before .before .before .before .before in
+    let b = c .before .before .before .before .before .before .before .before .before .before .before .before .before .before .before .before in
     let g = back-good (p .put-undo .result .count) (take (p .put-undo .result .length - 0) (undone p)) (undone-stand p) in
-    (g .0, rw (g .1) (omega (arith, ranged-short (asked b) (b .args .undo) (b .args .range) (there b) (few b) (small b), b .pre .3)))
+    (g .0, rw (g .1) (omega (arith, ranged-short (asked b) (b .args .undo) (b .args .range) (there b), few b, small b, b .pre .4)))
 
 returns : tie.Need-returns
 unfolding rangedItems
 returns c =
-    let p = c .before .before .before .before .before .before .before in
+    let p = c .before .before .before .before .before .before .before .before in
     let g = back-good (p .put-undo .result .count) (take (p .put-undo .result .length - 0) (undone p)) (undone-stand p) in
-    rw (← g .1, ← (c .before .before .before .before .before .before .before .before .before .before .before .before .before .before .put-moved .ensures .2)) (c .before .before .put-range .ensures)
+    (rw (← g .1, ← (c .before .before .before .before .before .before .before .before .before .before .before .before .before .before .put-moved .ensures .2)) (c .before .before .put-range .ensures), wrote-undone p .2)
 
 pub write-items-spec : {M : Type 1} → statement M
 write-items-spec =
     tie.close
     (tie.spec
     put-moved-requires
-    (λ c κs. search needs)
     (λ c. search needs)
     (λ c. search needs)
     part-put-undo-end
-    (λ c. search needs)
     put-undo-requires
     (λ c. search needs)
     (λ c. search needs)
     part-put-range-end
     put-range-requires
+    (λ c. search needs)
     (λ c. search needs)
     returns)
