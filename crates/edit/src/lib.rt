@@ -1,7 +1,7 @@
 // The editing gate, and set and remove on a whole file.
 ghost use mathlib.Core.Path.{_≡_};
 ghost use mathlib.Core.Bool.{true};
-ghost use Prim.Native.Nat.{_≤_};
+ghost use Prim.Native.Nat.{_≤_, _+_, _-_};
 ghost use lib.ListN.{length};
 ghost use Rattle.lists.specs.Choice.{provided, isSome};
 ghost use Rattle.lists.specs.Write.{over};
@@ -121,6 +121,13 @@ pub fn scratch() -> [u8; 66048]
     [0u8; 66048]
 }
 
+// Room for the items of a small tag, as most are: it costs less to clear.
+pub fn small_scratch() -> [u8; 4096]
+    ensures { λ r. ⌜ 4096 ≡ length r ⌝ }
+{
+    [0u8; 4096]
+}
+
 // The file with the items of a well-formed area in place of its own: refusals 6 and 5, the last of every call that writes a file.
 pub fn finish(file: &[u8], area: &[u8], count: usize, out: &mut [u8]) -> Written
     requires { ⌜ (length (now file) ≤ 16777216) × (isSome (parse count (now area)) ≡ true) ⌝ }
@@ -135,7 +142,28 @@ pub fn finish(file: &[u8], area: &[u8], count: usize, out: &mut [u8]) -> Written
     ape_write::replace_items(file, area, count, out)
 }
 
-// Sets an item of a file that is fit for editing.
+// Sets an item of a file that is fit for editing. The items are made in `new`.
+fn set_item_in(
+    file: &[u8],
+    start: usize,
+    end: usize,
+    count: usize,
+    key: &[u8],
+    value: &[u8],
+    new: &mut [u8],
+    out: &mut [u8],
+) -> Written
+    requires { ⌜ (Passed (now file) start end count) × (length (now file) ≤ 16777216) × (isKey (now key) ≡ true) × (length (now value) ≤ 32768) × (end - start + 9 + length (now key) + length (now value) ≤ length (now new)) ⌝ }
+    ensures { λ r. ⌜ (r ≡ writtenAnswer (tagPlan (now (file .entry)) (setItem (now (key .entry)) (now (value .entry)) (itemsOf (now (file .entry)))) (length (now (out .entry))))) × (now (out .exit) ≡ over (writtenBytes (tagPlan (now (file .entry)) (setItem (now (key .entry)) (now (value .entry)) (itemsOf (now (file .entry)))) (length (now (out .entry))))) (now (out .entry))) ⌝ }
+{
+    let area = &file[start..end];
+    let p = items::locate(area, count, key);
+    let m = area_edit::write_set(area, count, key, value, p, new);
+    let n = m.length;
+    finish(file, &new[0..n], m.count, out)
+}
+
+// The same in room that is large enough.
 fn set_item(
     file: &[u8],
     start: usize,
@@ -148,12 +176,12 @@ fn set_item(
     requires { ⌜ (Passed (now file) start end count) × (length (now file) ≤ 16777216) × (isKey (now key) ≡ true) × (length (now value) ≤ 32768) ⌝ }
     ensures { λ r. ⌜ (r ≡ writtenAnswer (tagPlan (now (file .entry)) (setItem (now (key .entry)) (now (value .entry)) (itemsOf (now (file .entry)))) (length (now (out .entry))))) × (now (out .exit) ≡ over (writtenBytes (tagPlan (now (file .entry)) (setItem (now (key .entry)) (now (value .entry)) (itemsOf (now (file .entry)))) (length (now (out .entry))))) (now (out .entry))) ⌝ }
 {
-    let area = &file[start..end];
-    let p = items::locate(area, count, key);
+    if end - start + 9 + key.len() + value.len() <= 4096 {
+        let mut new = small_scratch();
+        return set_item_in(file, start, end, count, key, value, &mut new, out);
+    }
     let mut new = scratch();
-    let m = area_edit::write_set(area, count, key, value, p, &mut new);
-    let n = m.length;
-    finish(file, &new[0..n], m.count, out)
+    set_item_in(file, start, end, count, key, value, &mut new, out)
 }
 
 // The file with this value at the first item with this key, or with one more item: refusals 1, 3, 4, 8, 6 and 5.
@@ -179,7 +207,34 @@ pub fn set_ape_item(file: &[u8], key: &[u8], value: &[u8], out: &mut [u8]) -> Wr
     set_item(file, start, end, count, key, value, out)
 }
 
-// Drops items of a file that is fit for editing.
+// Drops items of a file that is fit for editing. Those that stay are written into `new`.
+fn drop_items_in(
+    file: &[u8],
+    start: usize,
+    end: usize,
+    count: usize,
+    what: Drop,
+    key: &[u8],
+    new: &mut [u8],
+    out: &mut [u8],
+) -> Written
+    requires { ⌜ (Passed (now file) start end count) × (length (now file) ≤ 16777216) × (end - start ≤ length (now new)) ⌝ }
+    ensures { λ r. ⌜ (r ≡ writtenAnswer (tagPlan (now (file .entry)) (without (dropped what (now (key .entry))) (itemsOf (now (file .entry)))) (length (now (out .entry))))) × (now (out .exit) ≡ over (writtenBytes (tagPlan (now (file .entry)) (without (dropped what (now (key .entry))) (itemsOf (now (file .entry)))) (length (now (out .entry))))) (now (out .entry))) ⌝ }
+{
+    let area = &file[start..end];
+    let m = area_edit::measure_without(area, count, what, key);
+    let Measured::Size {
+        count: left,
+        length: _,
+    } = m
+    else {
+        return Written::Refused(Refusal::NotEditable);
+    };
+    let n = area_edit::write_without(area, count, what, key, new);
+    finish(file, &new[0..n], left, out)
+}
+
+// The same in room that is large enough.
 pub fn drop_items(
     file: &[u8],
     start: usize,
@@ -192,18 +247,12 @@ pub fn drop_items(
     requires { ⌜ (Passed (now file) start end count) × (length (now file) ≤ 16777216) ⌝ }
     ensures { λ r. ⌜ (r ≡ writtenAnswer (tagPlan (now (file .entry)) (without (dropped what (now (key .entry))) (itemsOf (now (file .entry)))) (length (now (out .entry))))) × (now (out .exit) ≡ over (writtenBytes (tagPlan (now (file .entry)) (without (dropped what (now (key .entry))) (itemsOf (now (file .entry)))) (length (now (out .entry))))) (now (out .entry))) ⌝ }
 {
-    let area = &file[start..end];
-    let m = area_edit::measure_without(area, count, what, key);
-    let Measured::Size {
-        count: left,
-        length: _,
-    } = m
-    else {
-        return Written::Refused(Refusal::NotEditable);
-    };
+    if end - start <= 4096 {
+        let mut new = small_scratch();
+        return drop_items_in(file, start, end, count, what, key, &mut new, out);
+    }
     let mut new = scratch();
-    let n = area_edit::write_without(area, count, what, key, &mut new);
-    finish(file, &new[0..n], left, out)
+    drop_items_in(file, start, end, count, what, key, &mut new, out)
 }
 
 // The file without the items with this key: refusals 1, 3, 8, 6 and 5.

@@ -94,13 +94,6 @@ fn filed(file: &[u8], area: &[u8], count: usize, out: &mut [u8]) -> LevelAnswer
     }
 }
 
-// Room for the items of a small tag, as most are: it costs less to clear than that for any tag.
-fn small_scratch() -> [u8; 4096]
-    ensures { λ r. ⌜ 4096 ≡ length r ⌝ }
-{
-    [0u8; 4096]
-}
-
 // The file with the items that level leaves, which are made in `work` and `new`.
 fn write_file_in(
     file: &[u8],
@@ -151,8 +144,8 @@ fn write_file(
     ensures { λ r. ⌜ (r ≡ filedAnswer (tagPlan (now (file .entry)) (rangedItems (record { left = «left_steps» .0; right = «right_steps» .0; mode = mode }) undo range (itemsOf (now (file .entry)))) (length (now (out .entry)))) (countOf isPeakKey (rangedItems (record { left = «left_steps» .0; right = «right_steps» .0; mode = mode }) undo range (itemsOf (now (file .entry)))))) × (now (out .exit) ≡ over (writtenBytes (tagPlan (now (file .entry)) (rangedItems (record { left = «left_steps» .0; right = «right_steps» .0; mode = mode }) undo range (itemsOf (now (file .entry)))) (length (now (out .entry))))) (now (out .entry))) ⌝ }
 {
     if end - start + 32 * count <= 4020 {
-        let mut work = small_scratch();
-        let mut new = small_scratch();
+        let mut work = edit::small_scratch();
+        let mut new = edit::small_scratch();
         return write_file_in(
             file,
             start,

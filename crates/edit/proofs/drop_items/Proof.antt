@@ -1,97 +1,33 @@
--- The items that stay are written into a scratch array, and read back from it.
-use mathlib.Core.Path.{_≡_, refl, sym, ap, _∙_}
-use mathlib.Core.Bool.{true≢false}
-use mathlib.Core.Option.{some}
-use mathlib.Core.List.{List}
-use Prim.Native.Nat.{ℕ, _-_, _≤_, _<_}
+-- Whichever room is taken, it holds the items.
+use Prim.Native.Nat.{_-_, _≤_}
 use native.Mathlib.Omega.{arith}
 use borrow.Author.Needs.{needs}
-use lib.ListN.{length, take}
-use Rattle.lists.specs.Write.{part}
-use Rattle.items.specs.Items.{Item, areaBytes, parse, itemsIn, without}
-use Rattle.items.proofs.ItemLaws.{area-without, sane-without, parse-sane}
-use Rattle.area_edit.specs.Edits.{dropped}
-use Rattle.area_edit.proofs.Plans.{Sized, sized, unsized}
-use Rattle.calls.specs.Gate.{itemsOf}
-use Rattle.items.proofs.Area.{read-back, back-good}
-use Rattle.edit.proofs.Rewriting.{short-items}
 use Rattle.edit.proofs.drop_items.Statement.{statement}
 use Rattle.edit.proofs.drop_items.Tie as tie
 
--- the items that stay, as the code finds them
-abbrev area : tie.Start → List ℕ
-area b = part (b .args .start) (b .args .end) (b .args .file .now)
-
-abbrev new : tie.Start → List Item
-new b = without (dropped (b .args .what) (b .args .key .now)) (itemsIn (b .args .count) (area b))
-
-long : (b : tie.Start) → length (areaBytes (new b)) ≤ 32768
-long b =
-    omega (arith, area-without (dropped (b .args .what) (b .args .key .now)) (itemsIn (b .args .count) (area b)), ap (λ ts. length (areaBytes ts)) (b .pre .0 .items), short-items (b .pre .0))
-
-returns : tie.Need-returns
-returns c =
+in-small : tie.Need-drop-items-in-requires
+in-small c κs =
     let b = c .before .before .before .before .before .before .before in
-    absurd (true≢false (sym (b .pre .0 .good) ∙ unsized (without (dropped (b .args .what) (b .args .key .now))) (b .args .count) (area b) (sym (c .enum-told .given .1) ∙ c .before .before .measure-without .ensures)))
+    let h : b .args .end - b .args .start ≤ 4096 = omega arith in
+    (b .pre .0, b .pre .1, omega (arith, h, c .before .before .small-scratch .ensures))
 
--- how many stay
-few : (c : tie.After-known-told) → c .before .m .given .0 .0 ≡ length (new (c .before .before .before .before .before .before .before .before))
-few c =
-    let b = c .before .before .before .before .before .before .before .before in
-    sized (without (dropped (b .args .what) (b .args .key .now))) (b .args .count) (area b) (c .before .m .given .0 .0) (c .before .m .given .0 .1 .0) (sym (c .before .m .given .1) ∙ c .before .before .before .measure-without .ensures) .count
-
-write-without-requires : tie.Need-write-without-requires
-write-without-requires c κs =
-    let b = c .before .before .before .before .before .before .before .before .before .before in
-    (b .pre .0 .good, omega (arith, long b, c .before .scratch .ensures))
-
-part-finish-end : tie.Need-part-finish-end
-part-finish-end c =
-    let h : c .before .before .write-without .result ≤ 66048 = omega (arith, c .before .before .write-without .ensures .0, long (c .before .before .before .before .before .before .before .before .before .before .before .before .before)) in
-    search needs
-
--- what stands in the scratch array
-abbrev array : tie.After-write-without → List ℕ
-array c = c .write-without .last .1 .1 .1 .1 .0
-
-stands : (c : tie.After-write-without) → parse (c .before .before .before .before .m .given .0 .0) (take (c .write-without .result - 0) (array c)) ≡ some (new (c .before .before .before .before .before .before .before .before .before .before .before))
-stands c =
-    let b = c .before .before .before .before .before .before .before .before .before .before .before in
-    let w = c .write-without .ensures in
-    read-back (new b) (array c) _ (c .write-without .result) (c .before .before .before .before .m .given .0 .0) (w .1) (w .0) (few (c .before .before .before))
-    (sane-without (dropped (b .args .what) (b .args .key .now)) (itemsIn (b .args .count) (area b)) (parse-sane (b .args .count) (area b)))
-    (omega (arith, long b))
-
-finish-requires : tie.Need-finish-requires
-finish-requires c κs =
-    let p = c .before .before .before .before in
-    (c .before .before .before .before .before .before .before .before .before .before .before .before .before .before .before .pre .1, back-good (p .before .before .before .before .m .given .0 .0) (take (p .write-without .result - 0) (array p)) (stands p) .0)
-
-returns-2 : tie.Need-returns-2
-returns-2 c =
-    let p = c .before .before .before .before .before .before .before in
-    let b = c .before .before .before .before .before .before .before .before .before .before .before .before .before .before .before .before .before .before in
-    let i : itemsIn (p .before .before .before .before .m .given .0 .0) (take (p .write-without .result - 0) (array p)) ≡ without (dropped (b .args .what) (b .args .key .now)) (itemsOf (b .args .file .now)) =
-    back-good (p .before .before .before .before .m .given .0 .0) (take (p .write-without .result - 0) (array p)) (stands p) .1 ∙ ap (without (dropped (b .args .what) (b .args .key .now))) (b .pre .0 .items) in
-    rw (← i) (c .before .before .finish .ensures)
+in-any : tie.Need-drop-items-in-requires-2
+in-any c κs =
+    let b = c .before .before .before .before .before .before .before in
+    (b .pre .0, b .pre .1, omega (arith, b .pre .0 .short, c .before .before .scratch .ensures))
 
 pub drop-items-spec : {M : Type 1} → statement M
 drop-items-spec =
     tie.close
     (tie.spec
     (λ c. search needs)
-    (λ c. search needs)
-    (λ c. search needs)
     (λ c κs. search needs)
     (λ c. search needs)
+    in-small
     (λ c. search needs)
-    returns
+    (λ c. c .before .before .before .drop-items-in .ensures)
     (λ c κs. search needs)
     (λ c. search needs)
-    write-without-requires
+    in-any
     (λ c. search needs)
-    (λ c. search needs)
-    part-finish-end
-    finish-requires
-    (λ c. search needs)
-    returns-2)
+    (λ c. c .before .before .before .drop-items-in2 .ensures))

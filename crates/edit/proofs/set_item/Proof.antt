@@ -1,73 +1,22 @@
--- The items are edited in a scratch array, and read back from it.
-use mathlib.Core.Path.{_≡_, refl, sym, ap, _∙_}
-use mathlib.Core.Option.{some}
-use mathlib.Core.List.{List}
-use Prim.Native.Nat.{ℕ, _-_, _≤_, _<_}
+-- Whichever room is taken, it holds the items.
+use Prim.Native.Nat.{_+_, _-_, _≤_}
 use native.Mathlib.Omega.{arith}
 use borrow.Author.Needs.{needs}
-use lib.ListN.{length, take}
-use Rattle.lists.specs.Write.{part}
+use lib.ListN.{length}
 use Rattle.keys.proofs.Keys.{key-length}
-use Rattle.items.specs.Items.{Item, areaBytes, parse, itemsIn, setItem}
-use Rattle.items.proofs.ItemLaws.{area-set, sane-set, sane-key, parse-sane}
-use Rattle.calls.specs.Gate.{itemsOf}
-use Rattle.items.proofs.Area.{read-back, back-good}
-use Rattle.edit.proofs.Rewriting.{short-items}
 use Rattle.edit.proofs.set_item.Statement.{statement}
 use Rattle.edit.proofs.set_item.Tie as tie
 
--- the new items, as the code finds them
-abbrev new : tie.Start → List Item
-new b = setItem (b .args .key .now) (b .args .value .now) (itemsIn (b .args .count) (part (b .args .start) (b .args .end) (b .args .file .now)))
-
-long : (b : tie.Start) → length (areaBytes (new b)) ≤ 66048
-long b =
-    let g = b .args in
-    omega (
-      arith,
-      area-set (g .key .now) (g .value .now) (itemsIn (g .count) (part (g .start) (g .end) (g .file .now))),
-      ap (λ ts. length (areaBytes ts)) (b .pre .0 .items),
-      short-items (b .pre .0),
-      key-length (g .key .now) (b .pre .2),
-      b .pre .3,
-    )
-
-write-set-requires : tie.Need-write-set-requires
-write-set-requires c κs =
+in-small : tie.Need-set-item-in-requires
+in-small c κs =
     let b = c .before .before .before .before .before .before .before .before in
-    (b .pre .0 .good, c .before .before .locate .ensures, omega (arith, b .pre .3), omega (arith, long b, c .before .scratch .ensures))
+    let h : b .args .end - b .args .start + 9 + length (b .args .key .now) + length (b .args .value .now) ≤ 4096 = omega arith in
+    (b .pre .0, b .pre .1, b .pre .2, b .pre .3, omega (arith, h, c .before .before .small-scratch .ensures))
 
-part-finish-end : tie.Need-part-finish-end
-part-finish-end c =
-    let h : c .before .before .write-set .result .length ≤ 66048 = omega (arith, c .before .before .write-set .ensures .1, long (c .before .before .before .before .before .before .before .before .before .before .before)) in
-    search needs
-
--- what stands in the scratch array
-abbrev array : tie.After-write-set → List ℕ
-array c = c .write-set .last .1 .1 .1 .1 .1 .0
-
-stands : (c : tie.After-write-set) → parse (c .write-set .result .count) (take (c .write-set .result .length - 0) (array c)) ≡ some (new (c .before .before .before .before .before .before .before .before .before))
-stands c =
-    let b = c .before .before .before .before .before .before .before .before .before in
-    let g = b .args in
-    let w = c .write-set .ensures in
-    let ts = itemsIn (g .count) (part (g .start) (g .end) (g .file .now)) in
-    read-back (new b) (array c) _ (c .write-set .result .length) (c .write-set .result .count) (w .2) (w .1) (w .0)
-    (sane-set (g .key .now) (g .value .now) ts (sane-key (g .key .now) (b .pre .2)) (parse-sane (g .count) (part (g .start) (g .end) (g .file .now))))
-    (omega (arith, long b))
-
-finish-requires : tie.Need-finish-requires
-finish-requires c κs =
-    let p = c .before .before .before .before in
-    (c .before .before .before .before .before .before .before .before .before .before .before .before .before .pre .1, back-good (p .write-set .result .count) (take (p .write-set .result .length - 0) (array p)) (stands p) .0)
-
-returns : tie.Need-returns
-returns c =
-    let p = c .before .before .before .before .before .before .before in
-    let b = c .before .before .before .before .before .before .before .before .before .before .before .before .before .before .before .before in
-    let i : itemsIn (p .write-set .result .count) (take (p .write-set .result .length - 0) (array p)) ≡ setItem (b .args .key .now) (b .args .value .now) (itemsOf (b .args .file .now)) =
-    back-good (p .write-set .result .count) (take (p .write-set .result .length - 0) (array p)) (stands p) .1 ∙ ap (setItem (b .args .key .now) (b .args .value .now)) (b .pre .0 .items) in
-    rw (← i) (c .before .before .finish .ensures)
+in-any : tie.Need-set-item-in-requires-2
+in-any c κs =
+    let b = c .before .before .before .before .before .before .before .before in
+    (b .pre .0, b .pre .1, b .pre .2, b .pre .3, omega (arith, b .pre .0 .short, key-length (b .args .key .now) (b .pre .2), b .pre .3, c .before .before .scratch .ensures))
 
 pub set-item-spec : {M : Type 1} → statement M
 set-item-spec =
@@ -76,13 +25,14 @@ set-item-spec =
     (λ c. search needs)
     (λ c. search needs)
     (λ c. search needs)
+    (λ c. search needs)
     (λ c κs. search needs)
+    (λ c. search needs)
+    in-small
+    (λ c. search needs)
+    (λ c. c .before .before .before .set-item-in .ensures)
     (λ c κs. search needs)
     (λ c. search needs)
-    write-set-requires
+    in-any
     (λ c. search needs)
-    (λ c. search needs)
-    part-finish-end
-    finish-requires
-    (λ c. search needs)
-    returns)
+    (λ c. c .before .before .before .set-item-in2 .ensures))
