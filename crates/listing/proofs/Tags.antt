@@ -25,16 +25,16 @@ use Rattle.listing.specs.Listing.{lines, listed, listing}
 use Rattle.listing.proofs.Sane.{tag-items}
 
 module _ (file : List ℕ) (h : length file ≤ 16384) where
-  area-fits : length (readArea (readTag file)) ≤ 49152
+  area-fits : length (readArea (readTag file)) ≤ 3 * length file
   area-fits = go (readTag file) refl
     where
-      go : (o : Option (List Item)) → readTag file ≡ o → length (readArea o) ≤ 49152
+      go : (o : Option (List Item)) → readTag file ≡ o → length (readArea o) ≤ 3 * length file
       go none e = omega arith
-      go (some ts) e = omega (arith, tag-items file ts e .1, h)
+      go (some ts) e = omega (arith, tag-items file ts e .1)
 
-  pub read-yes : readPlan file 49152 ≡ yes (readTag file)
+  pub read-yes : (n : ℕ) → 3 * length file ≤ n → readPlan file n ≡ yes (readTag file)
   unfolding readPlan
-  read-yes = rw (le-leb (length file) 16777216 (omega (arith, h)), le-leb (length (readArea (readTag file))) 49152 area-fits, le-leb (length (readArea (readTag file))) 16777216 (omega (arith, area-fits)))
+  read-yes n k = rw (le-leb (length file) 16777216 (omega (arith, h)), le-leb (length (readArea (readTag file))) n (omega (arith, area-fits, k)), le-leb (length (readArea (readTag file))) 16777216 (omega (arith, area-fits, h)))
 
   pub short-listing : listing file ≡ listed (readTag file)
   unfolding listing
@@ -61,7 +61,7 @@ read-refused (some ts) e f = let z : _≡_ {A = ℕ} 0 1 = cc in absurd (omega a
 
 -- the items stand at the front of the array
 pub items-back : (file : List ℕ) → length file ≤ 16384 → {n l : ℕ} (x : Read (readTag file) n l) (new old : List ℕ) → new ≡ over (readArea (readTag file)) old
-    → (parse n (take (l - 0) new) ≡ some (x .items)) × (length (take (l - 0) new) ≡ l) × (l ≤ 49152)
+    → (parse n (take (l - 0) new) ≡ some (x .items)) × (length (take (l - 0) new) ≡ l) × (l ≤ 3 * length file)
 items-back file h {n} {l} x new old e =
     let f = tag-items file (x .items) (x .is) in
     let w : new ≡ over (areaBytes (x .items)) old = e ∙ ap (λ o. over (readArea o) old) (x .is) in
@@ -69,7 +69,7 @@ items-back file h {n} {l} x new old e =
     ap (λ (s : List ℕ). take (l - 0) s) w ∙ take-at (areaBytes (x .items)) _ (l - 0) (omega (arith, x .long)) in (
       read-back (x .items) new old l n w (x .long) (x .counted) (f .0) (omega (arith, f .1, h)),
       omega (arith, ap length t, x .long),
-      omega (arith, f .1, h, x .long),
+      omega (arith, f .1, x .long),
     )
 
 pub long-listing : (file : List ℕ) → 16384 < length file → listing file ≡ 0x72 ∷ 0x65 ∷ 0x66 ∷ 0x75 ∷ 0x73 ∷ 0x65 ∷ 0x64 ∷ 0x3D ∷ 0x31 ∷ 0x0A ∷ []

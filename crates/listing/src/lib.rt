@@ -131,6 +131,26 @@ fn scratch() -> [u8; 49152]
     [0u8; 49152]
 }
 
+// Room for the items of a short file: it costs less to clear.
+fn small_scratch() -> [u8; 3072]
+    ensures { λ r. ⌜ 3072 ≡ length r ⌝ }
+{
+    [0u8; 3072]
+}
+
+// Lists the tag of a file that is not too long. The items are read into `area`.
+fn list_in(file: &[u8], area: &mut [u8], text: &mut [u8; 147473]) -> usize
+    requires { ⌜ (length (now file) ≤ 16384) × (3 * length (now file) ≤ length (now area)) ⌝ }
+    ensures { λ r. ⌜ (r ≡ length (L.listing (now (file .entry)))) × (now (text .exit) ≡ over (L.listing (now (file .entry))) (now (text .entry))) ⌝ }
+{
+    let t = ape::read_ape_tag(file, area);
+    match t {
+        TagRead::Items { count, length } => put_listed(text, &area[0..length], count),
+        TagRead::NoTag => lists::put(text, 0, b"items=none\n"),
+        TagRead::Refused(_) => lists::put(text, 0, b"items=none\n"),
+    }
+}
+
 // Lists the tag of a file: `refused=1` for a file that is too long, `items=none` for no tag, else how many items were read and a line for each.
 pub fn list_tag(file: &[u8], text: &mut [u8; 147473]) -> usize
     ensures { λ r. ⌜ (r ≡ length (L.listing (now (file .entry)))) × (now (text .exit) ≡ over (L.listing (now (file .entry))) (now (text .entry))) ⌝ }
@@ -138,11 +158,10 @@ pub fn list_tag(file: &[u8], text: &mut [u8; 147473]) -> usize
     if LIST_LIMIT < file.len() {
         return lists::put(text, 0, b"refused=1\n");
     }
-    let mut area = scratch();
-    let t = ape::read_ape_tag(file, &mut area);
-    match t {
-        TagRead::Items { count, length } => put_listed(text, &area[0..length], count),
-        TagRead::NoTag => lists::put(text, 0, b"items=none\n"),
-        TagRead::Refused(_) => lists::put(text, 0, b"items=none\n"),
+    if file.len() <= 1024 {
+        let mut area = small_scratch();
+        return list_in(file, &mut area, text);
     }
+    let mut area = scratch();
+    list_in(file, &mut area, text)
 }

@@ -1,86 +1,30 @@
--- The tag is read into a scratch array, which holds what any file of that length can give, and listed from there.
+-- Whichever room is taken, it holds the items.
 use borrow.Author.Needs.{needs}
-use mathlib.Core.Path.{_≡_, refl, sym, ap, _∙_}
-use mathlib.Core.Option.{Option, none, some}
+use mathlib.Core.Path.{_≡_, _∙_}
 use mathlib.Core.List.{List, [], _∷_}
-use Prim.Native.Nat.{ℕ, _-_, _≤_, _<_}
+use Prim.Native.Nat.{ℕ, _≤_}
 use native.Mathlib.Nat.{zero-add}
 use native.Mathlib.Omega.{arith}
-use lib.ListN.{length, take}
-use Rattle.lists.specs.Write.{over}
+use lib.ListN.{length}
 use Rattle.lists.proofs.Wrote.{at-front}
-use Rattle.replies.specs.Refusal.{yes}
-use Rattle.items.specs.Items.{parse, itemsIn}
-use Rattle.items.proofs.Area.{parse-fits, back-good}
-use Rattle.ape.specs.Tag.{readTag}
-use Rattle.ape.specs.Answers.{readArea, readPlan, readAnswer, readBytes}
-use Rattle.listing.specs.Listing.{listed, listing}
-use Rattle.listing.proofs.Tags.{read-yes, short-listing, Read, read-items, read-none, read-refused, items-back, long-listing, none-listing}
+use Rattle.listing.proofs.Tags.{long-listing}
 use Rattle.listing.proofs.list_tag.Statement.{statement}
 use Rattle.listing.proofs.list_tag.Tie as tie
 
--- the two fixed texts
+-- the fixed text
 abbrev refused : List ℕ
 refused = 0x72 ∷ 0x65 ∷ 0x66 ∷ 0x75 ∷ 0x73 ∷ 0x65 ∷ 0x64 ∷ 0x3D ∷ 0x31 ∷ 0x0A ∷ []
-
-abbrev untagged : List ℕ
-untagged = 0x69 ∷ 0x74 ∷ 0x65 ∷ 0x6D ∷ 0x73 ∷ 0x3D ∷ 0x6E ∷ 0x6F ∷ 0x6E ∷ 0x65 ∷ 0x0A ∷ []
 
 returns : tie.Need-returns
 returns c =
     let g = c .before .before .before .before .before .args in
     rw (long-listing (g .file .now) (c .before .before .before .if1 .taken)) (c .put .ensures .0 ∙ zero-add (length refused), c .put .ensures .1 ∙ at-front (g .text .now) refused)
 
--- the file is short, and nothing is refused
-plan : (c : tie.After-scratch) → readPlan (c .before .before .before .args .file .now) (length (c .scratch .result)) ≡ yes (readTag (c .before .before .before .args .file .now))
-plan c = ap (readPlan (c .before .before .before .args .file .now)) (sym (c .scratch .ensures)) ∙ read-yes (c .before .before .before .args .file .now) (c .before .if1 .left)
+in-small : tie.Need-list-in-requires
+in-small c κs = (omega (arith, c .before .before .before .before .if1 .left), omega (arith, c .before .before .before .if2 .taken, c .before .before .small-scratch .ensures))
 
-answer : (c : tie.After-read-ape-tag) → c .read-ape-tag .result ≡ readAnswer (yes (readTag (c .before .before .before .before .before .args .file .now)))
-answer c = c .read-ape-tag .ensures .0 ∙ ap readAnswer (plan (c .before .before))
-
--- what stands in the scratch array
-abbrev array : tie.After-read-ape-tag → List ℕ
-array c = c .read-ape-tag .last .1 .0
-
-wrote : (c : tie.After-read-ape-tag) → array c ≡ over (readArea (readTag (c .before .before .before .before .before .args .file .now))) (c .before .before .scratch .result)
-wrote c = c .read-ape-tag .ensures .1 ∙ ap (λ p. over (readBytes p) (c .before .before .scratch .result)) (plan (c .before .before))
-
--- there is a tag
-there : (c : tie.After-known-told) → Read (readTag (c .before .before .before .before .before .before .before .before .before .args .file .now)) (c .before .t .given .0 .0) (c .before .t .given .0 .1 .0)
-there c = read-items (readTag (c .before .before .before .before .before .before .before .before .before .args .file .now)) (answer (c .before .before .before .before)) (c .before .t .given .1)
-
-back : (c : tie.After-known-told) → let n = c .before .t .given .0 .0 in let l = c .before .t .given .0 .1 .0 in
-    (parse n (take (l - 0) (array (c .before .before .before .before))) ≡ some (there c .items)) × (length (take (l - 0) (array (c .before .before .before .before))) ≡ l) × (l ≤ 49152)
-back c = items-back (c .before .before .before .before .before .before .before .before .before .args .file .now) (c .before .before .before .before .before .before .before .if1 .left) (there c) (array (c .before .before .before .before)) (c .before .before .before .before .before .before .scratch .result) (wrote (c .before .before .before .before))
-
-part-put-listed-end : tie.Need-part-put-listed-end
-part-put-listed-end c = let h = back (c .before .before) .2 in search needs
-
-put-listed-requires : tie.Need-put-listed-requires
-put-listed-requires c κs =
-    let k = c .before .before .before in
-    let b = back k in
-    let n = k .before .t .given .0 .0 in
-    let s = take (k .before .t .given .0 .1 .0 - 0) (array (k .before .before .before .before)) in
-    let g = back-good n s (b .0) in
-    (g .0, omega (arith, parse-fits n s (g .0), b .1, b .2), omega (arith, b .1, b .2))
-
-returns-2 : tie.Need-returns-2
-returns-2 c =
-    let k = c .before .before .before .before in
-    let n = k .before .t .given .0 .0 in
-    let s = take (k .before .t .given .0 .1 .0 - 0) (array (k .before .before .before .before)) in
-    let g = back-good n s (back k .0) in
-    rw (short-listing (c .before .before .before .before .before .before .before .before .before .before .before .before .before .args .file .now) (c .before .before .before .before .before .before .before .before .before .before .before .if1 .left), there k .is, ← g .1) (c .put-listed .ensures)
-
-returns-3 : tie.Need-returns-3
-returns-3 c =
-    let f = c .before .before .before .before .before .before .before .before .before .before .before .args .file .now in
-    rw (short-listing f (c .before .before .before .before .before .before .before .before .before .if1 .left), read-none (readTag f) (answer (c .before .before .before .before .before .before)) (c .before .before .before .enum-told .given .1), none-listing)
-    (c .put2 .ensures .0 ∙ zero-add (length untagged), c .put2 .ensures .1 ∙ at-front (c .before .before .before .before .before .before .before .before .before .before .before .args .text .now) untagged)
-
-returns-4 : tie.Need-returns-4
-returns-4 c = absurd (read-refused (readTag (c .before .before .before .before .before .before .before .before .before .before .before .args .file .now)) (answer (c .before .before .before .before .before .before)) (c .before .before .before .enum-told2 .given .1))
+in-any : tie.Need-list-in-requires-2
+in-any c κs = (omega (arith, c .before .before .before .before .if1 .left), omega (arith, c .before .before .before .before .if1 .left, c .before .before .scratch .ensures))
 
 pub list-tag-spec : {M : Type 1} → statement M
 list-tag-spec =
@@ -91,18 +35,9 @@ list-tag-spec =
     returns
     (λ c κs. search needs)
     (λ c. search needs)
+    in-small
+    (λ c. c .before .list-in .ensures)
     (λ c κs. search needs)
     (λ c. search needs)
-    (λ c. search needs)
-    (λ c. search needs)
-    part-put-listed-end
-    put-listed-requires
-    (λ c. search needs)
-    (λ c. search needs)
-    (λ c κs. search needs)
-    (λ c. search needs)
-    (λ c. search needs)
-    (λ c κs. search needs)
-    returns-2
-    returns-3
-    returns-4)
+    in-any
+    (λ c. c .before .list-in2 .ensures))
