@@ -91,8 +91,10 @@ pub fn find_ape_footer(file: &[u8]) -> FooterFound
 // Writes an item, its key and value converted, into `out` from `at`, and answers where it ends. The texts come first: their length is
 // known only then.
 fn put_item(table: &[u8; 256], out: &mut [u8], at: usize, key: &[u8], value: &[u8]) -> usize
-    requires { ⌜ (Classes (now table)) × (length (now value) ≤ 16777216) × (at + length (itemBytes (converted (now key) (now value))) ≤ length (now out)) ⌝ }
-    ensures { λ r. ⌜ (r ≡ at + length (itemBytes (converted (now (key .entry)) (now (value .entry))))) × (now (out .exit) ≡ splice (now (out .entry)) at (itemBytes (converted (now (key .entry)) (now (value .entry))))) ⌝ }
+    requires { ⌜ (Classes (now table)) × (length (now value) ≤ 16777216)
+        × (at + length (itemBytes (converted (now key) (now value))) ≤ length (now out)) ⌝ }
+    ensures { λ r. ⌜ (let new = itemBytes (converted (now (key .entry)) (now (value .entry))) in
+        (r ≡ at + length new) × (now (out .exit) ≡ splice (now (out .entry)) at new)) ⌝ }
 {
     let k = utf8::lossy_put(table, out, at + 8, key);
     let z = lists::put(out, k, b"\0");
@@ -169,7 +171,8 @@ fn measure_items(table: &[u8; 256], items: &[u8], count: usize, room: usize) -> 
 // Writes the items that are read from these bytes to the front of `out`: how many, and how long their area is.
 fn write_items(table: &[u8; 256], items: &[u8], count: usize, out: &mut [u8]) -> Area
     requires { ⌜ (Classes (now table)) × (length (now items) ≤ 16777216) × (length (areaBytes (readItems count (now items))) ≤ length (now out)) ⌝ }
-    ensures { λ r. ⌜ (r .count ≡ length (readItems count (now (items .entry)))) × (r .length ≡ length (areaBytes (readItems count (now (items .entry))))) × (now (out .exit) ≡ over (areaBytes (readItems count (now (items .entry)))) (now (out .entry))) ⌝ }
+    ensures { λ r. ⌜ (let ts = readItems count (now (items .entry)) in
+        (r .count ≡ length ts) × (r .length ≡ length (areaBytes ts)) × (now (out .exit) ≡ over (areaBytes ts) (now (out .entry)))) ⌝ }
 {
     let mut at = 0;
     let mut left = count;
@@ -228,7 +231,8 @@ fn items_fit(table: &[u8; 256], items: &[u8], count: usize, room: usize) -> bool
 // Reads at most `count` items from these bytes into `out`: refusal 5.
 fn read_items(items: &[u8], count: usize, out: &mut [u8]) -> TagRead
     requires { ⌜ length (now items) ≤ 16777216 ⌝ }
-    ensures { λ r. ⌜ (r ≡ readAnswer (itemsPlan (length (now (out .entry))) (readItems count (now (items .entry))))) × (now (out .exit) ≡ over (readBytes (itemsPlan (length (now (out .entry))) (readItems count (now (items .entry))))) (now (out .entry))) ⌝ }
+    ensures { λ r. ⌜ (let plan = itemsPlan (length (now (out .entry))) (readItems count (now (items .entry))) in
+        (r ≡ readAnswer plan) × (now (out .exit) ≡ over (readBytes plan) (now (out .entry)))) ⌝ }
 {
     let table = utf8::class_table();
     if !items_fit(&table, items, count, least(out.len(), replies::FILE_LIMIT)) {
@@ -263,7 +267,8 @@ fn items_start(footer: usize, size: usize) -> usize
 
 // Reads the tag of a file into `area`: no tag, or how many items it has and how long their area is. Refusals 1 and 5.
 pub fn read_ape_tag(file: &[u8], area: &mut [u8]) -> TagRead
-    ensures { λ r. ⌜ (r ≡ readAnswer (readPlan (now (file .entry)) (length (now (area .entry))))) × (now (area .exit) ≡ over (readBytes (readPlan (now (file .entry)) (length (now (area .entry))))) (now (area .entry))) ⌝ }
+    ensures { λ r. ⌜ (let plan = readPlan (now (file .entry)) (length (now (area .entry))) in
+        (r ≡ readAnswer plan) × (now (area .exit) ≡ over (readBytes plan) (now (area .entry)))) ⌝ }
 {
     if replies::FILE_LIMIT < file.len() {
         return TagRead::Refused(Refusal::FileTooLong);

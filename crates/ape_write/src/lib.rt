@@ -72,8 +72,10 @@ fn put_parts(out: &mut [u8], area: &[u8], count: u32)
 
 // Writes the tag of the items of a well-formed area to the front of `out`, and answers its length.
 pub fn put_tag(out: &mut [u8], area: &[u8], count: usize) -> usize
-    requires { ⌜ (isSome (parse count (now area)) ≡ true) × (length (serialize (itemsIn count (now area))) ≤ 16777216) × (length (serialize (itemsIn count (now area))) ≤ length (now out)) ⌝ }
-    ensures { λ r. ⌜ (r ≡ length (serialize (itemsIn count (now (area .entry))))) × (now (out .exit) ≡ over (serialize (itemsIn count (now (area .entry)))) (now (out .entry))) ⌝ }
+    requires { ⌜ (isSome (parse count (now area)) ≡ true) × (length (serialize (itemsIn count (now area))) ≤ 16777216)
+        × (length (serialize (itemsIn count (now area))) ≤ length (now out)) ⌝ }
+    ensures { λ r. ⌜ (r ≡ length (serialize (itemsIn count (now (area .entry)))))
+        × (now (out .exit) ≡ over (serialize (itemsIn count (now (area .entry)))) (now (out .entry))) ⌝ }
 {
     if count == 0 {
         return 0;
@@ -84,7 +86,8 @@ pub fn put_tag(out: &mut [u8], area: &[u8], count: usize) -> usize
 
 // The tag of the items of an area, in bytes: refusals 12 and 5.
 pub fn serialize_ape_tag(area: &[u8], count: usize, out: &mut [u8]) -> Written
-    ensures { λ r. ⌜ (r ≡ writtenAnswer (serializePlan (now (area .entry)) count (length (now (out .entry))))) × (now (out .exit) ≡ over (writtenBytes (serializePlan (now (area .entry)) count (length (now (out .entry))))) (now (out .entry))) ⌝ }
+    ensures { λ r. ⌜ (let plan = serializePlan (now (area .entry)) count (length (now (out .entry))) in
+        (r ≡ writtenAnswer plan) × (now (out .exit) ≡ over (writtenBytes plan) (now (out .entry)))) ⌝ }
 {
     if !items::well_formed(area, count) {
         return Written::Refused(Refusal::MalformedArea);
@@ -152,8 +155,11 @@ pub fn file_length(cut: Cut, tag: usize) -> usize
 
 // Writes the file with the tag of this area's items to the front of `out`, each part into the rest of it, and answers its length.
 pub fn put_file(file: &[u8], cut: Cut, area: &[u8], count: usize, out: &mut [u8]) -> usize
-    requires { ⌜ (Cuts (split (now file)) (now file) (cut .front) (cut .from) (cut .to)) × (isSome (parse count (now area)) ≡ true) × (length (replaced (now file) (itemsIn count (now area))) ≤ 16777216) × (length (replaced (now file) (itemsIn count (now area))) ≤ length (now out)) ⌝ }
-    ensures { λ r. ⌜ (r ≡ length (replaced (now (file .entry)) (itemsIn count (now (area .entry))))) × (now (out .exit) ≡ over (replaced (now (file .entry)) (itemsIn count (now (area .entry)))) (now (out .entry))) ⌝ }
+    requires { ⌜ (Cuts (split (now file)) (now file) (cut .front) (cut .from) (cut .to)) × (isSome (parse count (now area)) ≡ true)
+        × (length (replaced (now file) (itemsIn count (now area))) ≤ 16777216)
+        × (length (replaced (now file) (itemsIn count (now area))) ≤ length (now out)) ⌝ }
+    ensures { λ r. ⌜ (let new = replaced (now (file .entry)) (itemsIn count (now (area .entry))) in
+        (r ≡ length new) × (now (out .exit) ≡ over new (now (out .entry)))) ⌝ }
 {
     let front = cut.front;
     let from = cut.from;
@@ -168,7 +174,8 @@ pub fn put_file(file: &[u8], cut: Cut, area: &[u8], count: usize, out: &mut [u8]
 // The file with its tag replaced by the items of a well-formed area, where there is room for it: refusal 5.
 pub fn replace_items(file: &[u8], area: &[u8], count: usize, out: &mut [u8]) -> Written
     requires { ⌜ (length (now file) ≤ 16777216) × (isSome (parse count (now area)) ≡ true) ⌝ }
-    ensures { λ r. ⌜ (r ≡ writtenAnswer (roomPlan (now (file .entry)) (itemsIn count (now (area .entry))) (length (now (out .entry))))) × (now (out .exit) ≡ over (writtenBytes (roomPlan (now (file .entry)) (itemsIn count (now (area .entry))) (length (now (out .entry))))) (now (out .entry))) ⌝ }
+    ensures { λ r. ⌜ (let plan = roomPlan (now (file .entry)) (itemsIn count (now (area .entry))) (length (now (out .entry))) in
+        (r ≡ writtenAnswer plan) × (now (out .exit) ≡ over (writtenBytes plan) (now (out .entry)))) ⌝ }
 {
     let cut = split_ape_tag(file);
     let n = file_length(cut, tag_length(area.len(), count));
@@ -183,7 +190,8 @@ pub fn replace_items(file: &[u8], area: &[u8], count: usize, out: &mut [u8]) -> 
 
 // The file with its tag replaced by the items of the area: refusals 1, 12 and 5.
 pub fn replace_ape_tag(file: &[u8], area: &[u8], count: usize, out: &mut [u8]) -> Written
-    ensures { λ r. ⌜ (r ≡ writtenAnswer (replacePlan (now (file .entry)) (now (area .entry)) count (length (now (out .entry))))) × (now (out .exit) ≡ over (writtenBytes (replacePlan (now (file .entry)) (now (area .entry)) count (length (now (out .entry))))) (now (out .entry))) ⌝ }
+    ensures { λ r. ⌜ (let plan = replacePlan (now (file .entry)) (now (area .entry)) count (length (now (out .entry))) in
+        (r ≡ writtenAnswer plan) × (now (out .exit) ≡ over (writtenBytes plan) (now (out .entry)))) ⌝ }
 {
     if replies::FILE_LIMIT < file.len() {
         return Written::Refused(Refusal::FileTooLong);

@@ -94,8 +94,10 @@ pub fn measure_without(area: &[u8], count: usize, what: Drop, key: &[u8]) -> Mea
 
 // Writes the items of a well-formed area that stay to the front of `out`.
 pub fn write_without(area: &[u8], count: usize, what: Drop, key: &[u8], out: &mut [u8]) -> usize
-    requires { ⌜ (isSome (parse count (now area)) ≡ true) × (length (areaBytes (without (dropped what (now key)) (itemsIn count (now area)))) ≤ length (now out)) ⌝ }
-    ensures { λ r. ⌜ (r ≡ length (areaBytes (without (dropped what (now (key .entry))) (itemsIn count (now (area .entry)))))) × (now (out .exit) ≡ over (areaBytes (without (dropped what (now (key .entry))) (itemsIn count (now (area .entry))))) (now (out .entry))) ⌝ }
+    requires { ⌜ (isSome (parse count (now area)) ≡ true)
+        × (length (areaBytes (without (dropped what (now key)) (itemsIn count (now area)))) ≤ length (now out)) ⌝ }
+    ensures { λ r. ⌜ (let new = areaBytes (without (dropped what (now (key .entry))) (itemsIn count (now (area .entry)))) in
+        (r ≡ length new) × (now (out .exit) ≡ over new (now (out .entry)))) ⌝ }
 {
     let mut at = 0;
     let mut left = count;
@@ -123,7 +125,8 @@ pub fn write_without(area: &[u8], count: usize, what: Drop, key: &[u8], out: &mu
 
 // The area without the items that go.
 fn edit_without(area: &[u8], count: usize, what: Drop, key: &[u8], out: &mut [u8]) -> Edited
-    ensures { λ r. ⌜ (r ≡ answer (dropPlan (dropped what (now (key .entry))) count (now (area .entry)) (length (now (out .entry))))) × (now (out .exit) ≡ over (bytes (dropPlan (dropped what (now (key .entry))) count (now (area .entry)) (length (now (out .entry))))) (now (out .entry))) ⌝ }
+    ensures { λ r. ⌜ (let plan = dropPlan (dropped what (now (key .entry))) count (now (area .entry)) (length (now (out .entry))) in
+        (r ≡ answer plan) × (now (out .exit) ≡ over (bytes plan) (now (out .entry)))) ⌝ }
 {
     let m = measure_without(area, count, what, key);
     let Measured::Size {
@@ -148,7 +151,8 @@ fn edit_without(area: &[u8], count: usize, what: Drop, key: &[u8], out: &mut [u8
 
 // The area without the items that have this key.
 pub fn remove(area: &[u8], count: usize, key: &[u8], out: &mut [u8]) -> Edited
-    ensures { λ r. ⌜ (r ≡ answer (removePlan (now (key .entry)) count (now (area .entry)) (length (now (out .entry))))) × (now (out .exit) ≡ over (bytes (removePlan (now (key .entry)) count (now (area .entry)) (length (now (out .entry))))) (now (out .entry))) ⌝ }
+    ensures { λ r. ⌜ (let plan = removePlan (now (key .entry)) count (now (area .entry)) (length (now (out .entry))) in
+        (r ≡ answer plan) × (now (out .exit) ≡ over (bytes plan) (now (out .entry)))) ⌝ }
 {
     if keys::is_key(key) {
         return edit_without(area, count, Drop::Key, key, out);
@@ -161,21 +165,24 @@ pub fn remove(area: &[u8], count: usize, key: &[u8], out: &mut [u8]) -> Edited
 
 // The area without REPLAYGAIN_KEYS.
 pub fn remove_replaygain(area: &[u8], count: usize, out: &mut [u8]) -> Edited
-    ensures { λ r. ⌜ (r ≡ answer (dropPlan isReplayGain count (now (area .entry)) (length (now (out .entry))))) × (now (out .exit) ≡ over (bytes (dropPlan isReplayGain count (now (area .entry)) (length (now (out .entry))))) (now (out .entry))) ⌝ }
+    ensures { λ r. ⌜ (let plan = dropPlan isReplayGain count (now (area .entry)) (length (now (out .entry))) in
+        (r ≡ answer plan) × (now (out .exit) ≡ over (bytes plan) (now (out .entry)))) ⌝ }
 {
     edit_without(area, count, Drop::ReplayGain, b"", out)
 }
 
 // The area without UNDONE_KEYS.
 pub fn drop_undone(area: &[u8], count: usize, out: &mut [u8]) -> Edited
-    ensures { λ r. ⌜ (r ≡ answer (dropPlan isUndone count (now (area .entry)) (length (now (out .entry))))) × (now (out .exit) ≡ over (bytes (dropPlan isUndone count (now (area .entry)) (length (now (out .entry))))) (now (out .entry))) ⌝ }
+    ensures { λ r. ⌜ (let plan = dropPlan isUndone count (now (area .entry)) (length (now (out .entry))) in
+        (r ≡ answer plan) × (now (out .exit) ≡ over (bytes plan) (now (out .entry)))) ⌝ }
 {
     edit_without(area, count, Drop::Undone, b"", out)
 }
 
 // The area without the eight keys.
 pub fn take_mp3gain(area: &[u8], count: usize, out: &mut [u8]) -> Edited
-    ensures { λ r. ⌜ (r ≡ answer (dropPlan isMp3gainKey count (now (area .entry)) (length (now (out .entry))))) × (now (out .exit) ≡ over (bytes (dropPlan isMp3gainKey count (now (area .entry)) (length (now (out .entry))))) (now (out .entry))) ⌝ }
+    ensures { λ r. ⌜ (let plan = dropPlan isMp3gainKey count (now (area .entry)) (length (now (out .entry))) in
+        (r ≡ answer plan) × (now (out .exit) ≡ over (bytes plan) (now (out .entry)))) ⌝ }
 {
     edit_without(area, count, Drop::Mp3gain, b"", out)
 }
@@ -197,8 +204,10 @@ fn is_malformed(p: Place) -> bool
 
 // What set makes of a well-formed area, `p` being where the first item with the key stands.
 pub fn measure_set(area: &[u8], count: usize, key: &[u8], value: &[u8], p: Place) -> Measure
-    requires { ⌜ (isSome (parse count (now area)) ≡ true) × (p ≡ locateOf (now area) count (now key)) × (length (now key) ≤ 255) × (length (now value) ≤ fileLimit) ⌝ }
-    ensures { λ r. ⌜ (r .count ≡ length (setItem (now (key .entry)) (now (value .entry)) (itemsIn count (now (area .entry))))) × (r .length ≡ length (areaBytes (setItem (now (key .entry)) (now (value .entry)) (itemsIn count (now (area .entry)))))) ⌝ }
+    requires { ⌜ (isSome (parse count (now area)) ≡ true) × (p ≡ locateOf (now area) count (now key)) × (length (now key) ≤ 255)
+        × (length (now value) ≤ fileLimit) ⌝ }
+    ensures { λ r. ⌜ (let ts = setItem (now (key .entry)) (now (value .entry)) (itemsIn count (now (area .entry))) in
+        (r .count ≡ length ts) × (r .length ≡ length (areaBytes ts))) ⌝ }
 {
     match p {
         Place::At {
@@ -226,8 +235,10 @@ pub fn put_changed(
     stop: usize,
     value: &[u8],
 ) -> usize
-    requires { ⌜ (start + 8 ≤ stop) × (stop < length (now area)) × (length (now value) ≤ fileLimit) × (at + (stop + 1 - start) + length (now value) ≤ length (now out)) ⌝ }
-    ensures { λ r. ⌜ (r ≡ at + length (changed (now (area .entry)) start stop (now (value .entry)))) × (now (out .exit) ≡ splice (now (out .entry)) at (changed (now (area .entry)) start stop (now (value .entry)))) × (r ≡ at + (stop + 1 - start) + length (now (value .entry))) ⌝ }
+    requires { ⌜ (start + 8 ≤ stop) × (stop < length (now area)) × (length (now value) ≤ fileLimit)
+        × (at + (stop + 1 - start) + length (now value) ≤ length (now out)) ⌝ }
+    ensures { λ r. ⌜ (let new = changed (now (area .entry)) start stop (now (value .entry)) in
+        (r ≡ at + length new) × (now (out .exit) ≡ splice (now (out .entry)) at new) × (r ≡ at + (stop + 1 - start) + length (now (value .entry)))) ⌝ }
 {
     let a = lists::put_u32_le(out, at, value.len() as u32);
     let b = lists::put_part(out, a, area, start + 4, stop + 1);
@@ -237,7 +248,8 @@ pub fn put_changed(
 // Writes an item, its key in upper case, into `out` from `at`.
 pub fn put_item(out: &mut [u8], at: usize, key: &[u8], value: &[u8]) -> usize
     requires { ⌜ (length (now value) ≤ fileLimit) × (at + 9 + length (now key) + length (now value) ≤ length (now out)) ⌝ }
-    ensures { λ r. ⌜ (r ≡ at + length (fresh (now (key .entry)) (now (value .entry)))) × (now (out .exit) ≡ splice (now (out .entry)) at (fresh (now (key .entry)) (now (value .entry)))) ⌝ }
+    ensures { λ r. ⌜ (r ≡ at + length (fresh (now (key .entry)) (now (value .entry))))
+        × (now (out .exit) ≡ splice (now (out .entry)) at (fresh (now (key .entry)) (now (value .entry)))) ⌝ }
 {
     let a = lists::put_u32_le(out, at, value.len() as u32);
     let b = lists::put_u32_le(out, a, 0);
@@ -255,8 +267,10 @@ fn put_replaced(
     value: &[u8],
     out: &mut [u8],
 ) -> usize
-    requires { ⌜ (start + 8 ≤ stop) × (stop < end) × (end ≤ length (now area)) × (length (now value) ≤ fileLimit) × (stop + 1 + length (now value) + (length (now area) - end) ≤ length (now out)) ⌝ }
-    ensures { λ r. ⌜ (r ≡ length (replaced (now (area .entry)) start stop end (now (value .entry)))) × (now (out .exit) ≡ over (replaced (now (area .entry)) start stop end (now (value .entry))) (now (out .entry))) ⌝ }
+    requires { ⌜ (start + 8 ≤ stop) × (stop < end) × (end ≤ length (now area)) × (length (now value) ≤ fileLimit)
+        × (stop + 1 + length (now value) + (length (now area) - end) ≤ length (now out)) ⌝ }
+    ensures { λ r. ⌜ (let new = replaced (now (area .entry)) start stop end (now (value .entry)) in
+        (r ≡ length new) × (now (out .exit) ≡ over new (now (out .entry)))) ⌝ }
 {
     let a = lists::put_part(out, 0, area, 0, start);
     let b = put_changed(out, a, area, start, stop, value);
@@ -266,7 +280,8 @@ fn put_replaced(
 // Writes the area with one more item behind it, its key in upper case, to the front of `out`.
 fn put_appended(area: &[u8], key: &[u8], value: &[u8], out: &mut [u8]) -> usize
     requires { ⌜ (length (now value) ≤ fileLimit) × (length (now area) + 9 + length (now key) + length (now value) ≤ length (now out)) ⌝ }
-    ensures { λ r. ⌜ (r ≡ length (appended (now (area .entry)) (now (key .entry)) (now (value .entry)))) × (now (out .exit) ≡ over (appended (now (area .entry)) (now (key .entry)) (now (value .entry))) (now (out .entry))) ⌝ }
+    ensures { λ r. ⌜ (let new = appended (now (area .entry)) (now (key .entry)) (now (value .entry)) in
+        (r ≡ length new) × (now (out .exit) ≡ over new (now (out .entry)))) ⌝ }
 {
     let a = lists::put(out, 0, area);
     put_item(out, a, key, value)
@@ -281,8 +296,10 @@ pub fn write_set(
     p: Place,
     out: &mut [u8],
 ) -> Measure
-    requires { ⌜ (isSome (parse count (now area)) ≡ true) × (p ≡ locateOf (now area) count (now key)) × (length (now value) ≤ fileLimit) × (length (areaBytes (setItem (now key) (now value) (itemsIn count (now area)))) ≤ length (now out)) ⌝ }
-    ensures { λ r. ⌜ (r .count ≡ length (setItem (now (key .entry)) (now (value .entry)) (itemsIn count (now (area .entry))))) × (r .length ≡ length (areaBytes (setItem (now (key .entry)) (now (value .entry)) (itemsIn count (now (area .entry)))))) × (now (out .exit) ≡ over (areaBytes (setItem (now (key .entry)) (now (value .entry)) (itemsIn count (now (area .entry))))) (now (out .entry))) ⌝ }
+    requires { ⌜ (isSome (parse count (now area)) ≡ true) × (p ≡ locateOf (now area) count (now key)) × (length (now value) ≤ fileLimit)
+        × (length (areaBytes (setItem (now key) (now value) (itemsIn count (now area)))) ≤ length (now out)) ⌝ }
+    ensures { λ r. ⌜ (let ts = setItem (now (key .entry)) (now (value .entry)) (itemsIn count (now (area .entry))) in
+        (r .count ≡ length ts) × (r .length ≡ length (areaBytes ts)) × (now (out .exit) ≡ over (areaBytes ts) (now (out .entry)))) ⌝ }
 {
     match p {
         Place::At {
@@ -309,7 +326,8 @@ pub fn write_set(
 
 // The area with this value at the first item with this key, which keeps its spelling and place, or with one more item.
 pub fn set(area: &[u8], count: usize, key: &[u8], value: &[u8], out: &mut [u8]) -> Edited
-    ensures { λ r. ⌜ (r ≡ answer (setPlan (now (key .entry)) (now (value .entry)) count (now (area .entry)) (length (now (out .entry))))) × (now (out .exit) ≡ over (bytes (setPlan (now (key .entry)) (now (value .entry)) count (now (area .entry)) (length (now (out .entry))))) (now (out .entry))) ⌝ }
+    ensures { λ r. ⌜ (let plan = setPlan (now (key .entry)) (now (value .entry)) count (now (area .entry)) (length (now (out .entry))) in
+        (r ≡ answer plan) × (now (out .exit) ≡ over (bytes plan) (now (out .entry)))) ⌝ }
 {
     let p = items::locate(area, count, key);
     if is_malformed(p) {

@@ -212,8 +212,11 @@ fn measure_gains<'a>(
 
 // Writes an item behind what is written, if it is still to be set.
 fn put_waiting(out: &mut [u8], m: Measure, waits: bool, key: &[u8], value: &[u8]) -> Measure
-    requires { ⌜ (m .count ≤ m .length) × (m .length + length (added (now key ∷ []) (waits ∷ []) (now value ∷ [])) ≤ length (now out)) × (length (added (now key ∷ []) (waits ∷ []) (now value ∷ [])) ≤ fileLimit) ⌝ }
-    ensures { λ r. ⌜ (r .count ≡ m .count + length (marked (now (key .entry) ∷ []) (waits ∷ []) (now (value .entry) ∷ []))) × (r .length ≡ m .length + length (added (now (key .entry) ∷ []) (waits ∷ []) (now (value .entry) ∷ []))) × (now (out .exit) ≡ splice (now (out .entry)) (m .length) (added (now (key .entry) ∷ []) (waits ∷ []) (now (value .entry) ∷ []))) × (r .count ≤ r .length) ⌝ }
+    requires { ⌜ (m .count ≤ m .length) × (m .length + length (added (now key ∷ []) (waits ∷ []) (now value ∷ [])) ≤ length (now out))
+        × (length (added (now key ∷ []) (waits ∷ []) (now value ∷ [])) ≤ fileLimit) ⌝ }
+    ensures { λ r. ⌜ (let new = added (now (key .entry) ∷ []) (waits ∷ []) (now (value .entry) ∷ []) in
+        (r .count ≡ m .count + length (marked (now (key .entry) ∷ []) (waits ∷ []) (now (value .entry) ∷ []))) × (r .length ≡ m .length + length new)
+        × (now (out .exit) ≡ splice (now (out .entry)) (m .length) new) × (r .count ≤ r .length)) ⌝ }
 {
     if waits {
         let end = area_edit::put_item(out, m.length, key, value);
@@ -236,8 +239,12 @@ fn put_rest(
     album_peak: &[u8],
     algorithm: &[u8],
 ) -> Measure
-    requires { ⌜ (m .count ≤ m .length) × (m .length + length (added gainKeys todo (now «track_gain» ∷ now «track_peak» ∷ now «album_gain» ∷ now «album_peak» ∷ now algorithm ∷ [])) ≤ length (now out)) × (length (added gainKeys todo (now «track_gain» ∷ now «track_peak» ∷ now «album_gain» ∷ now «album_peak» ∷ now algorithm ∷ [])) ≤ fileLimit) ⌝ }
-    ensures { λ r. ⌜ (r .count ≡ m .count + length (marked gainKeys todo (now («track_gain» .entry) ∷ now («track_peak» .entry) ∷ now («album_gain» .entry) ∷ now («album_peak» .entry) ∷ now (algorithm .entry) ∷ []))) × (r .length ≡ m .length + length (added gainKeys todo (now («track_gain» .entry) ∷ now («track_peak» .entry) ∷ now («album_gain» .entry) ∷ now («album_peak» .entry) ∷ now (algorithm .entry) ∷ []))) × (now (out .exit) ≡ splice (now (out .entry)) (m .length) (added gainKeys todo (now («track_gain» .entry) ∷ now («track_peak» .entry) ∷ now («album_gain» .entry) ∷ now («album_peak» .entry) ∷ now (algorithm .entry) ∷ []))) ⌝ }
+    requires { ⌜ (m .count ≤ m .length)
+        × (m .length + length (added gainKeys todo (now «track_gain» ∷ now «track_peak» ∷ now «album_gain» ∷ now «album_peak» ∷ now algorithm ∷ [])) ≤ length (now out))
+        × (length (added gainKeys todo (now «track_gain» ∷ now «track_peak» ∷ now «album_gain» ∷ now «album_peak» ∷ now algorithm ∷ [])) ≤ fileLimit) ⌝ }
+    ensures { λ r. ⌜ (let texts = now («track_gain» .entry) ∷ now («track_peak» .entry) ∷ now («album_gain» .entry) ∷ now («album_peak» .entry) ∷ now (algorithm .entry) ∷ [] in
+        (r .count ≡ m .count + length (marked gainKeys todo texts)) × (r .length ≡ m .length + length (added gainKeys todo texts))
+        × (now (out .exit) ≡ splice (now (out .entry)) (m .length) (added gainKeys todo texts))) ⌝ }
 {
     let k0 = keys::TAG_REPLAYGAIN_TRACK_GAIN;
     let k1 = keys::TAG_REPLAYGAIN_TRACK_PEAK;
@@ -262,8 +269,12 @@ fn write_gains<'a>(
     algorithm: &'a [u8],
     out: &mut [u8],
 ) -> Measure
-    requires { ⌜ (isSome (parse count (now area)) ≡ true) × (length (areaBytes (setEach (present (now «track_gain» ∷ now «track_peak» ∷ now «album_gain» ∷ now «album_peak» ∷ now algorithm ∷ [])) (itemsIn count (now area)))) ≤ length (now out)) × (length (areaBytes (setEach (present (now «track_gain» ∷ now «track_peak» ∷ now «album_gain» ∷ now «album_peak» ∷ now algorithm ∷ [])) (itemsIn count (now area)))) ≤ fileLimit) ⌝ }
-    ensures { λ r. ⌜ (r .count ≡ length (setEach (present (now («track_gain» .entry) ∷ now («track_peak» .entry) ∷ now («album_gain» .entry) ∷ now («album_peak» .entry) ∷ now (algorithm .entry) ∷ [])) (itemsIn count (now (area .entry))))) × (r .length ≡ length (areaBytes (setEach (present (now («track_gain» .entry) ∷ now («track_peak» .entry) ∷ now («album_gain» .entry) ∷ now («album_peak» .entry) ∷ now (algorithm .entry) ∷ [])) (itemsIn count (now (area .entry)))))) × (now (out .exit) ≡ over (areaBytes (setEach (present (now («track_gain» .entry) ∷ now («track_peak» .entry) ∷ now («album_gain» .entry) ∷ now («album_peak» .entry) ∷ now (algorithm .entry) ∷ [])) (itemsIn count (now (area .entry))))) (now (out .entry))) ⌝ }
+    requires { ⌜ (isSome (parse count (now area)) ≡ true)
+        × (length (areaBytes (setEach (present (now «track_gain» ∷ now «track_peak» ∷ now «album_gain» ∷ now «album_peak» ∷ now algorithm ∷ [])) (itemsIn count (now area)))) ≤ length (now out))
+        × (length (areaBytes (setEach (present (now «track_gain» ∷ now «track_peak» ∷ now «album_gain» ∷ now «album_peak» ∷ now algorithm ∷ [])) (itemsIn count (now area)))) ≤ fileLimit) ⌝ }
+    ensures { λ r. ⌜ (let texts = now («track_gain» .entry) ∷ now («track_peak» .entry) ∷ now («album_gain» .entry) ∷ now («album_peak» .entry) ∷ now (algorithm .entry) ∷ [] in
+        let ts = setEach (present texts) (itemsIn count (now (area .entry))) in
+        (r .count ≡ length ts) × (r .length ≡ length (areaBytes ts)) × (now (out .exit) ≡ over (areaBytes ts) (now (out .entry)))) ⌝ }
 {
     let mut to_write = to_set(track_gain, track_peak, album_gain, album_peak, algorithm);
     let mut at = 0;
@@ -315,7 +326,9 @@ pub fn set_replaygain<'a>(
     algorithm: &'a [u8],
     out: &mut [u8],
 ) -> Edited
-    ensures { λ r. ⌜ (r ≡ answer (setGainsPlan (now («track_gain» .entry) ∷ now («track_peak» .entry) ∷ now («album_gain» .entry) ∷ now («album_peak» .entry) ∷ now (algorithm .entry) ∷ []) count (now (area .entry)) (length (now (out .entry))))) × (now (out .exit) ≡ over (bytes (setGainsPlan (now («track_gain» .entry) ∷ now («track_peak» .entry) ∷ now («album_gain» .entry) ∷ now («album_peak» .entry) ∷ now (algorithm .entry) ∷ []) count (now (area .entry)) (length (now (out .entry))))) (now (out .entry))) ⌝ }
+    ensures { λ r. ⌜ (let texts = now («track_gain» .entry) ∷ now («track_peak» .entry) ∷ now («album_gain» .entry) ∷ now («album_peak» .entry) ∷ now (algorithm .entry) ∷ [] in
+        let plan = setGainsPlan texts count (now (area .entry)) (length (now (out .entry))) in
+        (r ≡ answer plan) × (now (out .exit) ≡ over (bytes plan) (now (out .entry)))) ⌝ }
 {
     if !items::well_formed(area, count) {
         return Edited::Refused(Refusal::MalformedArea);

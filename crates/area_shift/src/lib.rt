@@ -38,8 +38,10 @@ fn put_item(
     end: usize,
     steps: GainSteps,
 ) -> usize
-    requires { ⌜ (at + 8 ≤ stop) × (stop < end) × (end ≤ length (now area)) × (o + length (S.shiftedBytes (steps .0) (now area) at stop end) ≤ length (now out)) ⌝ }
-    ensures { λ r. ⌜ (r ≡ o + length (S.shiftedBytes (steps .0) (now (area .entry)) at stop end)) × (now (out .exit) ≡ splice (now (out .entry)) o (S.shiftedBytes (steps .0) (now (area .entry)) at stop end)) ⌝ }
+    requires { ⌜ (at + 8 ≤ stop) × (stop < end) × (end ≤ length (now area))
+        × (o + length (S.shiftedBytes (steps .0) (now area) at stop end) ≤ length (now out)) ⌝ }
+    ensures { λ r. ⌜ (let new = S.shiftedBytes (steps .0) (now (area .entry)) at stop end in
+        (r ≡ o + length new) × (now (out .exit) ≡ splice (now (out .entry)) o new)) ⌝ }
 {
     let key = at + 8;
     let value = stop + 1;
@@ -63,8 +65,10 @@ pub fn write_shifted(
     mode: GainMode,
     out: &mut [u8],
 ) -> Measure
-    requires { ⌜ (isSome (parse count (now area)) ≡ true) × (length (areaBytes (shiftStoredGain mode (steps .0) (itemsIn count (now area)))) ≤ length (now out)) ⌝ }
-    ensures { λ r. ⌜ (r .count ≡ length (shiftStoredGain mode (steps .0) (itemsIn count (now (area .entry))))) × (r .length ≡ length (areaBytes (shiftStoredGain mode (steps .0) (itemsIn count (now (area .entry)))))) × (now (out .exit) ≡ over (areaBytes (shiftStoredGain mode (steps .0) (itemsIn count (now (area .entry))))) (now (out .entry))) ⌝ }
+    requires { ⌜ (isSome (parse count (now area)) ≡ true)
+        × (length (areaBytes (shiftStoredGain mode (steps .0) (itemsIn count (now area)))) ≤ length (now out)) ⌝ }
+    ensures { λ r. ⌜ (let ts = shiftStoredGain mode (steps .0) (itemsIn count (now (area .entry))) in
+        (r .count ≡ length ts) × (r .length ≡ length (areaBytes ts)) × (now (out .exit) ≡ over (areaBytes ts) (now (out .entry)))) ⌝ }
 {
     let mut at = 0;
     let mut left = count;
@@ -172,7 +176,8 @@ pub fn shift_stored_gain(
     mode: GainMode,
     out: &mut [u8],
 ) -> Edited
-    ensures { λ r. ⌜ (r ≡ answer (S.shiftPlan mode (steps .0) count (now (area .entry)) (length (now (out .entry))))) × (now (out .exit) ≡ over (bytes (S.shiftPlan mode (steps .0) count (now (area .entry)) (length (now (out .entry))))) (now (out .entry))) ⌝ }
+    ensures { λ r. ⌜ (let plan = S.shiftPlan mode (steps .0) count (now (area .entry)) (length (now (out .entry))) in
+        (r ≡ answer plan) × (now (out .exit) ≡ over (bytes plan) (now (out .entry)))) ⌝ }
 {
     if !items::well_formed(area, count) {
         return Edited::Refused(Refusal::MalformedArea);

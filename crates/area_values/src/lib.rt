@@ -47,7 +47,8 @@ pub fn set_undo_gain(
     wrap: bool,
     out: &mut [u8],
 ) -> Edited
-    ensures { λ r. ⌜ (r ≡ answer (setPlan undoKey (formatUndo left right wrap) count (now (area .entry)) (length (now (out .entry))))) × (now (out .exit) ≡ over (bytes (setPlan undoKey (formatUndo left right wrap) count (now (area .entry)) (length (now (out .entry))))) (now (out .entry))) ⌝ }
+    ensures { λ r. ⌜ (let plan = setPlan undoKey (formatUndo left right wrap) count (now (area .entry)) (length (now (out .entry))) in
+        (r ≡ answer plan) × (now (out .exit) ≡ over (bytes plan) (now (out .entry)))) ⌝ }
 {
     let key = keys::TAG_MP3GAIN_UNDO;
     let text = values::format_undo_value(left, right, wrap);
@@ -58,7 +59,8 @@ pub fn set_undo_gain(
 
 // The area with a range text of these gains.
 pub fn set_minmax(area: &[u8], count: usize, least: u8, greatest: u8, out: &mut [u8]) -> Edited
-    ensures { λ r. ⌜ (r ≡ answer (setPlan minmaxKey (formatRange (record { least = least; greatest = greatest })) count (now (area .entry)) (length (now (out .entry))))) × (now (out .exit) ≡ over (bytes (setPlan minmaxKey (formatRange (record { least = least; greatest = greatest })) count (now (area .entry)) (length (now (out .entry))))) (now (out .entry))) ⌝ }
+    ensures { λ r. ⌜ (let plan = setPlan minmaxKey (formatRange (record { least = least; greatest = greatest })) count (now (area .entry)) (length (now (out .entry))) in
+        (r ≡ answer plan) × (now (out .exit) ≡ over (bytes plan) (now (out .entry)))) ⌝ }
 {
     let key = keys::TAG_MP3GAIN_MINMAX;
     let text = values::format_minmax(least, greatest);

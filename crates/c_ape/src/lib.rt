@@ -12,7 +12,9 @@ use ape_write::Written;
 // Where the footer of the file's tag stands: `there` is 1 and `footer` its place, or both are 0. Refusal 1.
 #[no_mangle]
 pub extern "C" fn zib_find_ape_footer(file: &[u8], there: &mut u32, footer: &mut usize) -> u32
-    ensures { λ r. ⌜ (r ≡ footerFace (footerAnswer (footerPlan (now (file .entry)))) (now (there .entry)) (now (footer .entry)) .reply) × (now (there .exit) ≡ footerFace (footerAnswer (footerPlan (now (file .entry)))) (now (there .entry)) (now (footer .entry)) .there) × (now (footer .exit) ≡ footerFace (footerAnswer (footerPlan (now (file .entry)))) (now (there .entry)) (now (footer .entry)) .footer) ⌝ }
+    ensures { λ r. ⌜ (let found = footerAnswer (footerPlan (now (file .entry))) in
+        let face = footerFace found (now (there .entry)) (now (footer .entry)) in
+        (r ≡ face .reply) × (now (there .exit) ≡ face .there) × (now (footer .exit) ≡ face .footer)) ⌝ }
 {
     let f = ape::find_ape_footer(file);
     match f {
@@ -40,7 +42,10 @@ pub extern "C" fn zib_read_ape_tag(
     count: &mut usize,
     written: &mut usize,
 ) -> u32
-    ensures { λ r. ⌜ (r ≡ readFace (readAnswer (readPlan (now (file .entry)) (length (now (area .entry))))) (now (there .entry)) (now (count .entry)) (now (written .entry)) .reply) × (now (there .exit) ≡ readFace (readAnswer (readPlan (now (file .entry)) (length (now (area .entry))))) (now (there .entry)) (now (count .entry)) (now (written .entry)) .there) × (now (count .exit) ≡ readFace (readAnswer (readPlan (now (file .entry)) (length (now (area .entry))))) (now (there .entry)) (now (count .entry)) (now (written .entry)) .count) × (now (written .exit) ≡ readFace (readAnswer (readPlan (now (file .entry)) (length (now (area .entry))))) (now (there .entry)) (now (count .entry)) (now (written .entry)) .written) × (now (area .exit) ≡ over (readBytes (readPlan (now (file .entry)) (length (now (area .entry))))) (now (area .entry))) ⌝ }
+    ensures { λ r. ⌜ (let plan = readPlan (now (file .entry)) (length (now (area .entry))) in
+        let face = readFace (readAnswer plan) (now (there .entry)) (now (count .entry)) (now (written .entry)) in
+        (r ≡ face .reply) × (now (there .exit) ≡ face .there) × (now (count .exit) ≡ face .count) × (now (written .exit) ≡ face .written)
+        × (now (area .exit) ≡ over (readBytes plan) (now (area .entry)))) ⌝ }
 {
     let t = ape::read_ape_tag(file, area);
     match t {
@@ -71,7 +76,9 @@ pub extern "C" fn zib_serialize_ape_tag(
     out: &mut [u8],
     written: &mut usize,
 ) -> u32
-    ensures { λ r. ⌜ (r ≡ writtenFace (writtenAnswer (serializePlan (now (area .entry)) count (length (now (out .entry))))) (now (written .entry)) .reply) × (now (written .exit) ≡ writtenFace (writtenAnswer (serializePlan (now (area .entry)) count (length (now (out .entry))))) (now (written .entry)) .written) × (now (out .exit) ≡ over (writtenBytes (serializePlan (now (area .entry)) count (length (now (out .entry))))) (now (out .entry))) ⌝ }
+    ensures { λ r. ⌜ (let plan = serializePlan (now (area .entry)) count (length (now (out .entry))) in
+        let face = writtenFace (writtenAnswer plan) (now (written .entry)) in
+        (r ≡ face .reply) × (now (written .exit) ≡ face .written) × (now (out .exit) ≡ over (writtenBytes plan) (now (out .entry)))) ⌝ }
 {
     let w = ape_write::serialize_ape_tag(area, count, out);
     match w {
@@ -93,7 +100,9 @@ pub extern "C" fn zib_replace_ape_tag(
     out: &mut [u8],
     written: &mut usize,
 ) -> u32
-    ensures { λ r. ⌜ (r ≡ writtenFace (writtenAnswer (replacePlan (now (file .entry)) (now (area .entry)) count (length (now (out .entry))))) (now (written .entry)) .reply) × (now (written .exit) ≡ writtenFace (writtenAnswer (replacePlan (now (file .entry)) (now (area .entry)) count (length (now (out .entry))))) (now (written .entry)) .written) × (now (out .exit) ≡ over (writtenBytes (replacePlan (now (file .entry)) (now (area .entry)) count (length (now (out .entry))))) (now (out .entry))) ⌝ }
+    ensures { λ r. ⌜ (let plan = replacePlan (now (file .entry)) (now (area .entry)) count (length (now (out .entry))) in
+        let face = writtenFace (writtenAnswer plan) (now (written .entry)) in
+        (r ≡ face .reply) × (now (written .exit) ≡ face .written) × (now (out .exit) ≡ over (writtenBytes plan) (now (out .entry)))) ⌝ }
 {
     let w = ape_write::replace_ape_tag(file, area, count, out);
     match w {

@@ -17,7 +17,9 @@ pub extern "C" fn zib_set_ape_item(
     out: &mut [u8],
     written: &mut usize,
 ) -> u32
-    ensures { λ r. ⌜ (r ≡ writtenFace (writtenAnswer (setPlan (now (file .entry)) (now (key .entry)) (now (value .entry)) (length (now (out .entry))))) (now (written .entry)) .reply) × (now (written .exit) ≡ writtenFace (writtenAnswer (setPlan (now (file .entry)) (now (key .entry)) (now (value .entry)) (length (now (out .entry))))) (now (written .entry)) .written) × (now (out .exit) ≡ over (writtenBytes (setPlan (now (file .entry)) (now (key .entry)) (now (value .entry)) (length (now (out .entry))))) (now (out .entry))) ⌝ }
+    ensures { λ r. ⌜ (let plan = setPlan (now (file .entry)) (now (key .entry)) (now (value .entry)) (length (now (out .entry))) in
+        let face = writtenFace (writtenAnswer plan) (now (written .entry)) in
+        (r ≡ face .reply) × (now (written .exit) ≡ face .written) × (now (out .exit) ≡ over (writtenBytes plan) (now (out .entry)))) ⌝ }
 {
     let w = edit::set_ape_item(file, key, value, out);
     match w {
@@ -37,7 +39,9 @@ pub extern "C" fn zib_remove_ape_item(
     out: &mut [u8],
     written: &mut usize,
 ) -> u32
-    ensures { λ r. ⌜ (r ≡ writtenFace (writtenAnswer (removePlan (now (file .entry)) (now (key .entry)) (length (now (out .entry))))) (now (written .entry)) .reply) × (now (written .exit) ≡ writtenFace (writtenAnswer (removePlan (now (file .entry)) (now (key .entry)) (length (now (out .entry))))) (now (written .entry)) .written) × (now (out .exit) ≡ over (writtenBytes (removePlan (now (file .entry)) (now (key .entry)) (length (now (out .entry))))) (now (out .entry))) ⌝ }
+    ensures { λ r. ⌜ (let plan = removePlan (now (file .entry)) (now (key .entry)) (length (now (out .entry))) in
+        let face = writtenFace (writtenAnswer plan) (now (written .entry)) in
+        (r ≡ face .reply) × (now (written .exit) ≡ face .written) × (now (out .exit) ≡ over (writtenBytes plan) (now (out .entry)))) ⌝ }
 {
     let w = edit::remove_ape_item(file, key, out);
     match w {

@@ -10,7 +10,8 @@ use frame::TagStart;
 // The number of four bytes, the least first, that stands in `bytes` from `at`: answers whether four bytes stand there.
 #[no_mangle]
 pub extern "C" fn zib_read_u32_le(bytes: &[u8], at: usize, value: &mut u32) -> bool
-    ensures { λ r. ⌜ (r ≡ read (now (bytes .entry)) at (now (value .entry)) .there) × (now (value .exit) ≡ read (now (bytes .entry)) at (now (value .entry)) .value) ⌝ }
+    ensures { λ r. ⌜ (r ≡ read (now (bytes .entry)) at (now (value .entry)) .there)
+        × (now (value .exit) ≡ read (now (bytes .entry)) at (now (value .entry)) .value) ⌝ }
 {
     if bytes.len() < 4 {
         return false;
@@ -38,7 +39,8 @@ pub extern "C" fn zib_ape_tag_start(
     there: &mut u32,
     start: &mut usize,
 ) -> u32
-    ensures { λ r. ⌜ (r ≡ startFace (now (file .entry)) footer (now (there .entry)) (now (start .entry)) .reply) × (now (there .exit) ≡ startFace (now (file .entry)) footer (now (there .entry)) (now (start .entry)) .there) × (now (start .exit) ≡ startFace (now (file .entry)) footer (now (there .entry)) (now (start .entry)) .start) ⌝ }
+    ensures { λ r. ⌜ (let face = startFace (now (file .entry)) footer (now (there .entry)) (now (start .entry)) in
+        (r ≡ face .reply) × (now (there .exit) ≡ face .there) × (now (start .exit) ≡ face .start)) ⌝ }
 {
     if replies::FILE_LIMIT < file.len() {
         return 1;

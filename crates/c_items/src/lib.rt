@@ -49,7 +49,9 @@ pub extern "C" fn zib_get(
     start: &mut usize,
     size: &mut usize,
 ) -> u32
-    ensures { λ r. ⌜ (r ≡ foundFace (findOf (now (area .entry)) count (now (key .entry))) (now (there .entry)) (now (start .entry)) (now (size .entry)) .reply) × (now (there .exit) ≡ foundFace (findOf (now (area .entry)) count (now (key .entry))) (now (there .entry)) (now (start .entry)) (now (size .entry)) .there) × (now (start .exit) ≡ foundFace (findOf (now (area .entry)) count (now (key .entry))) (now (there .entry)) (now (start .entry)) (now (size .entry)) .start) × (now (size .exit) ≡ foundFace (findOf (now (area .entry)) count (now (key .entry))) (now (there .entry)) (now (start .entry)) (now (size .entry)) .size) ⌝ }
+    ensures { λ r. ⌜ (let found = findOf (now (area .entry)) count (now (key .entry)) in
+        let face = foundFace found (now (there .entry)) (now (start .entry)) (now (size .entry)) in
+        (r ≡ face .reply) × (now (there .exit) ≡ face .there) × (now (start .exit) ≡ face .start) × (now (size .exit) ≡ face .size)) ⌝ }
 {
     let f = items::find(area, count, key);
     match f {
@@ -80,7 +82,9 @@ pub extern "C" fn zib_get_undo_gain(
     there: &mut u32,
     steps: &mut i32,
 ) -> u32
-    ensures { λ r. ⌜ (r ≡ gainFace (undoGainOf (now (area .entry)) count) (now (there .entry)) (now (steps .entry)) .reply) × (now (there .exit) ≡ gainFace (undoGainOf (now (area .entry)) count) (now (there .entry)) (now (steps .entry)) .there) × (now (steps .exit) ≡ gainFace (undoGainOf (now (area .entry)) count) (now (there .entry)) (now (steps .entry)) .steps) ⌝ }
+    ensures { λ r. ⌜ (let found = undoGainOf (now (area .entry)) count in
+        let face = gainFace found (now (there .entry)) (now (steps .entry)) in
+        (r ≡ face .reply) × (now (there .exit) ≡ face .there) × (now (steps .exit) ≡ face .steps)) ⌝ }
 {
     let g = area_values::get_undo_gain(area, count);
     match g {
@@ -100,7 +104,8 @@ pub extern "C" fn zib_get_undo_gain(
 
 // The reply to an edit, and its counts into the lent numbers.
 fn edited(e: Edited, items: &mut usize, written: &mut usize) -> u32
-    ensures { λ r. ⌜ (r ≡ editedFace e (now (items .entry)) (now (written .entry)) .reply) × (now (items .exit) ≡ editedFace e (now (items .entry)) (now (written .entry)) .items) × (now (written .exit) ≡ editedFace e (now (items .entry)) (now (written .entry)) .written) ⌝ }
+    ensures { λ r. ⌜ (let face = editedFace e (now (items .entry)) (now (written .entry)) in
+        (r ≡ face .reply) × (now (items .exit) ≡ face .items) × (now (written .exit) ≡ face .written)) ⌝ }
 {
     match e {
         Edited::Done {
@@ -126,7 +131,10 @@ pub extern "C" fn zib_set(
     items: &mut usize,
     written: &mut usize,
 ) -> u32
-    ensures { λ r. ⌜ (r ≡ editedFace (answer (setPlan (now (key .entry)) (now (value .entry)) count (now (area .entry)) (length (now (out .entry))))) (now (items .entry)) (now (written .entry)) .reply) × (now (items .exit) ≡ editedFace (answer (setPlan (now (key .entry)) (now (value .entry)) count (now (area .entry)) (length (now (out .entry))))) (now (items .entry)) (now (written .entry)) .items) × (now (written .exit) ≡ editedFace (answer (setPlan (now (key .entry)) (now (value .entry)) count (now (area .entry)) (length (now (out .entry))))) (now (items .entry)) (now (written .entry)) .written) × (now (out .exit) ≡ over (bytes (setPlan (now (key .entry)) (now (value .entry)) count (now (area .entry)) (length (now (out .entry))))) (now (out .entry))) ⌝ }
+    ensures { λ r. ⌜ (let plan = setPlan (now (key .entry)) (now (value .entry)) count (now (area .entry)) (length (now (out .entry))) in
+        let face = editedFace (answer plan) (now (items .entry)) (now (written .entry)) in
+        (r ≡ face .reply) × (now (items .exit) ≡ face .items) × (now (written .exit) ≡ face .written)
+        × (now (out .exit) ≡ over (bytes plan) (now (out .entry)))) ⌝ }
 {
     let e = area_edit::set(area, count, key, value, out);
     edited(e, items, written)
@@ -142,7 +150,10 @@ pub extern "C" fn zib_remove(
     items: &mut usize,
     written: &mut usize,
 ) -> u32
-    ensures { λ r. ⌜ (r ≡ editedFace (answer (removePlan (now (key .entry)) count (now (area .entry)) (length (now (out .entry))))) (now (items .entry)) (now (written .entry)) .reply) × (now (items .exit) ≡ editedFace (answer (removePlan (now (key .entry)) count (now (area .entry)) (length (now (out .entry))))) (now (items .entry)) (now (written .entry)) .items) × (now (written .exit) ≡ editedFace (answer (removePlan (now (key .entry)) count (now (area .entry)) (length (now (out .entry))))) (now (items .entry)) (now (written .entry)) .written) × (now (out .exit) ≡ over (bytes (removePlan (now (key .entry)) count (now (area .entry)) (length (now (out .entry))))) (now (out .entry))) ⌝ }
+    ensures { λ r. ⌜ (let plan = removePlan (now (key .entry)) count (now (area .entry)) (length (now (out .entry))) in
+        let face = editedFace (answer plan) (now (items .entry)) (now (written .entry)) in
+        (r ≡ face .reply) × (now (items .exit) ≡ face .items) × (now (written .exit) ≡ face .written)
+        × (now (out .exit) ≡ over (bytes plan) (now (out .entry)))) ⌝ }
 {
     let e = area_edit::remove(area, count, key, out);
     edited(e, items, written)
@@ -157,7 +168,10 @@ pub extern "C" fn zib_remove_replaygain(
     items: &mut usize,
     written: &mut usize,
 ) -> u32
-    ensures { λ r. ⌜ (r ≡ editedFace (answer (dropPlan isReplayGain count (now (area .entry)) (length (now (out .entry))))) (now (items .entry)) (now (written .entry)) .reply) × (now (items .exit) ≡ editedFace (answer (dropPlan isReplayGain count (now (area .entry)) (length (now (out .entry))))) (now (items .entry)) (now (written .entry)) .items) × (now (written .exit) ≡ editedFace (answer (dropPlan isReplayGain count (now (area .entry)) (length (now (out .entry))))) (now (items .entry)) (now (written .entry)) .written) × (now (out .exit) ≡ over (bytes (dropPlan isReplayGain count (now (area .entry)) (length (now (out .entry))))) (now (out .entry))) ⌝ }
+    ensures { λ r. ⌜ (let plan = dropPlan isReplayGain count (now (area .entry)) (length (now (out .entry))) in
+        let face = editedFace (answer plan) (now (items .entry)) (now (written .entry)) in
+        (r ≡ face .reply) × (now (items .exit) ≡ face .items) × (now (written .exit) ≡ face .written)
+        × (now (out .exit) ≡ over (bytes plan) (now (out .entry)))) ⌝ }
 {
     let e = area_edit::remove_replaygain(area, count, out);
     edited(e, items, written)
@@ -172,7 +186,10 @@ pub extern "C" fn zib_drop_undone(
     items: &mut usize,
     written: &mut usize,
 ) -> u32
-    ensures { λ r. ⌜ (r ≡ editedFace (answer (dropPlan isUndone count (now (area .entry)) (length (now (out .entry))))) (now (items .entry)) (now (written .entry)) .reply) × (now (items .exit) ≡ editedFace (answer (dropPlan isUndone count (now (area .entry)) (length (now (out .entry))))) (now (items .entry)) (now (written .entry)) .items) × (now (written .exit) ≡ editedFace (answer (dropPlan isUndone count (now (area .entry)) (length (now (out .entry))))) (now (items .entry)) (now (written .entry)) .written) × (now (out .exit) ≡ over (bytes (dropPlan isUndone count (now (area .entry)) (length (now (out .entry))))) (now (out .entry))) ⌝ }
+    ensures { λ r. ⌜ (let plan = dropPlan isUndone count (now (area .entry)) (length (now (out .entry))) in
+        let face = editedFace (answer plan) (now (items .entry)) (now (written .entry)) in
+        (r ≡ face .reply) × (now (items .exit) ≡ face .items) × (now (written .exit) ≡ face .written)
+        × (now (out .exit) ≡ over (bytes plan) (now (out .entry)))) ⌝ }
 {
     edited(area_edit::drop_undone(area, count, out), items, written)
 }
@@ -186,7 +203,10 @@ pub extern "C" fn zib_take_mp3gain(
     items: &mut usize,
     written: &mut usize,
 ) -> u32
-    ensures { λ r. ⌜ (r ≡ editedFace (answer (dropPlan isMp3gainKey count (now (area .entry)) (length (now (out .entry))))) (now (items .entry)) (now (written .entry)) .reply) × (now (items .exit) ≡ editedFace (answer (dropPlan isMp3gainKey count (now (area .entry)) (length (now (out .entry))))) (now (items .entry)) (now (written .entry)) .items) × (now (written .exit) ≡ editedFace (answer (dropPlan isMp3gainKey count (now (area .entry)) (length (now (out .entry))))) (now (items .entry)) (now (written .entry)) .written) × (now (out .exit) ≡ over (bytes (dropPlan isMp3gainKey count (now (area .entry)) (length (now (out .entry))))) (now (out .entry))) ⌝ }
+    ensures { λ r. ⌜ (let plan = dropPlan isMp3gainKey count (now (area .entry)) (length (now (out .entry))) in
+        let face = editedFace (answer plan) (now (items .entry)) (now (written .entry)) in
+        (r ≡ face .reply) × (now (items .exit) ≡ face .items) × (now (written .exit) ≡ face .written)
+        × (now (out .exit) ≡ over (bytes plan) (now (out .entry)))) ⌝ }
 {
     edited(area_edit::take_mp3gain(area, count, out), items, written)
 }
@@ -203,7 +223,10 @@ pub extern "C" fn zib_set_undo_gain(
     items: &mut usize,
     written: &mut usize,
 ) -> u32
-    ensures { λ r. ⌜ (r ≡ editedFace (answer (setPlan undoKey (formatUndo left right wrap) count (now (area .entry)) (length (now (out .entry))))) (now (items .entry)) (now (written .entry)) .reply) × (now (items .exit) ≡ editedFace (answer (setPlan undoKey (formatUndo left right wrap) count (now (area .entry)) (length (now (out .entry))))) (now (items .entry)) (now (written .entry)) .items) × (now (written .exit) ≡ editedFace (answer (setPlan undoKey (formatUndo left right wrap) count (now (area .entry)) (length (now (out .entry))))) (now (items .entry)) (now (written .entry)) .written) × (now (out .exit) ≡ over (bytes (setPlan undoKey (formatUndo left right wrap) count (now (area .entry)) (length (now (out .entry))))) (now (out .entry))) ⌝ }
+    ensures { λ r. ⌜ (let plan = setPlan undoKey (formatUndo left right wrap) count (now (area .entry)) (length (now (out .entry))) in
+        let face = editedFace (answer plan) (now (items .entry)) (now (written .entry)) in
+        (r ≡ face .reply) × (now (items .exit) ≡ face .items) × (now (written .exit) ≡ face .written)
+        × (now (out .exit) ≡ over (bytes plan) (now (out .entry)))) ⌝ }
 {
     let e = area_values::set_undo_gain(area, count, left, right, wrap, out);
     edited(e, items, written)
@@ -220,7 +243,10 @@ pub extern "C" fn zib_set_minmax(
     items: &mut usize,
     written: &mut usize,
 ) -> u32
-    ensures { λ r. ⌜ (r ≡ editedFace (answer (setPlan minmaxKey (formatRange (record { least = least; greatest = greatest })) count (now (area .entry)) (length (now (out .entry))))) (now (items .entry)) (now (written .entry)) .reply) × (now (items .exit) ≡ editedFace (answer (setPlan minmaxKey (formatRange (record { least = least; greatest = greatest })) count (now (area .entry)) (length (now (out .entry))))) (now (items .entry)) (now (written .entry)) .items) × (now (written .exit) ≡ editedFace (answer (setPlan minmaxKey (formatRange (record { least = least; greatest = greatest })) count (now (area .entry)) (length (now (out .entry))))) (now (items .entry)) (now (written .entry)) .written) × (now (out .exit) ≡ over (bytes (setPlan minmaxKey (formatRange (record { least = least; greatest = greatest })) count (now (area .entry)) (length (now (out .entry))))) (now (out .entry))) ⌝ }
+    ensures { λ r. ⌜ (let plan = setPlan minmaxKey (formatRange (record { least = least; greatest = greatest })) count (now (area .entry)) (length (now (out .entry))) in
+        let face = editedFace (answer plan) (now (items .entry)) (now (written .entry)) in
+        (r ≡ face .reply) × (now (items .exit) ≡ face .items) × (now (written .exit) ≡ face .written)
+        × (now (out .exit) ≡ over (bytes plan) (now (out .entry)))) ⌝ }
 {
     let e = area_values::set_minmax(area, count, least, greatest, out);
     edited(e, items, written)
@@ -240,7 +266,11 @@ pub extern "C" fn zib_set_replaygain<'a>(
     items: &mut usize,
     written: &mut usize,
 ) -> u32
-    ensures { λ r. ⌜ (r ≡ editedFace (answer (setGainsPlan (now («track_gain» .entry) ∷ now («track_peak» .entry) ∷ now («album_gain» .entry) ∷ now («album_peak» .entry) ∷ now (algorithm .entry) ∷ []) count (now (area .entry)) (length (now (out .entry))))) (now (items .entry)) (now (written .entry)) .reply) × (now (items .exit) ≡ editedFace (answer (setGainsPlan (now («track_gain» .entry) ∷ now («track_peak» .entry) ∷ now («album_gain» .entry) ∷ now («album_peak» .entry) ∷ now (algorithm .entry) ∷ []) count (now (area .entry)) (length (now (out .entry))))) (now (items .entry)) (now (written .entry)) .items) × (now (written .exit) ≡ editedFace (answer (setGainsPlan (now («track_gain» .entry) ∷ now («track_peak» .entry) ∷ now («album_gain» .entry) ∷ now («album_peak» .entry) ∷ now (algorithm .entry) ∷ []) count (now (area .entry)) (length (now (out .entry))))) (now (items .entry)) (now (written .entry)) .written) × (now (out .exit) ≡ over (bytes (setGainsPlan (now («track_gain» .entry) ∷ now («track_peak» .entry) ∷ now («album_gain» .entry) ∷ now («album_peak» .entry) ∷ now (algorithm .entry) ∷ []) count (now (area .entry)) (length (now (out .entry))))) (now (out .entry))) ⌝ }
+    ensures { λ r. ⌜ (let texts = now («track_gain» .entry) ∷ now («track_peak» .entry) ∷ now («album_gain» .entry) ∷ now («album_peak» .entry) ∷ now (algorithm .entry) ∷ [] in
+        let plan = setGainsPlan texts count (now (area .entry)) (length (now (out .entry))) in
+        let face = editedFace (answer plan) (now (items .entry)) (now (written .entry)) in
+        (r ≡ face .reply) × (now (items .exit) ≡ face .items) × (now (written .exit) ≡ face .written)
+        × (now (out .exit) ≡ over (bytes plan) (now (out .entry)))) ⌝ }
 {
     let e = area_gains::set_replaygain(
         area,

@@ -4,7 +4,7 @@ ghost use lib.ListN.{length};
 ghost use Rattle.lists.specs.Write.{over};
 ghost use Rattle.frame.specs.Gain.{modeOf};
 ghost use Rattle.area_edit.specs.Edits.{answer, bytes};
-ghost use Rattle.calls.specs.Calls.{levelPlan, undoPlan};
+ghost use Rattle.calls.specs.Calls.{Level, levelPlan, undoPlan};
 ghost use Rattle.area_shift.specs.Shift.{shiftPlan};
 ghost use Rattle.level.specs.Answers.{levelAnswer, levelBytes, leftAfter, rightAfter};
 ghost use Rattle.c_items.specs.ItemsFace.{editedFace};
@@ -16,7 +16,8 @@ use level::LevelAnswer;
 
 // Puts what was done into the lent numbers. The reply is 0, or the number of the refusal.
 fn put_answer(w: LevelAnswer, written: &mut usize, peaks: &mut usize) -> u32
-    ensures { λ r. ⌜ (r ≡ levelFace w (now (written .entry)) (now (peaks .entry)) .reply) × (now (written .exit) ≡ levelFace w (now (written .entry)) (now (peaks .entry)) .written) × (now (peaks .exit) ≡ levelFace w (now (written .entry)) (now (peaks .entry)) .peaks) ⌝ }
+    ensures { λ r. ⌜ (let face = levelFace w (now (written .entry)) (now (peaks .entry)) in
+        (r ≡ face .reply) × (now (written .exit) ≡ face .written) × (now (peaks .exit) ≡ face .peaks)) ⌝ }
 {
     match w {
         LevelAnswer::Done {
@@ -45,7 +46,12 @@ pub extern "C" fn zib_level(
     written: &mut usize,
     peaks: &mut usize,
 ) -> u32
-    ensures { λ r. ⌜ (r ≡ levelFace (levelAnswer (levelPlan (now (file .entry)) (now (left .entry)) (now (right .entry)) (record { left = «left_steps»; right = «right_steps»; mode = modeOf wrap }) (length (now (out .entry))))) (now (written .entry)) (now (peaks .entry)) .reply) × (now (written .exit) ≡ levelFace (levelAnswer (levelPlan (now (file .entry)) (now (left .entry)) (now (right .entry)) (record { left = «left_steps»; right = «right_steps»; mode = modeOf wrap }) (length (now (out .entry))))) (now (written .entry)) (now (peaks .entry)) .written) × (now (peaks .exit) ≡ levelFace (levelAnswer (levelPlan (now (file .entry)) (now (left .entry)) (now (right .entry)) (record { left = «left_steps»; right = «right_steps»; mode = modeOf wrap }) (length (now (out .entry))))) (now (written .entry)) (now (peaks .entry)) .peaks) × (now (out .exit) ≡ over (levelBytes (levelPlan (now (file .entry)) (now (left .entry)) (now (right .entry)) (record { left = «left_steps»; right = «right_steps»; mode = modeOf wrap }) (length (now (out .entry))))) (now (out .entry))) × (now (left .exit) ≡ leftAfter (levelPlan (now (file .entry)) (now (left .entry)) (now (right .entry)) (record { left = «left_steps»; right = «right_steps»; mode = modeOf wrap }) (length (now (out .entry)))) (now (left .entry))) × (now (right .exit) ≡ rightAfter (levelPlan (now (file .entry)) (now (left .entry)) (now (right .entry)) (record { left = «left_steps»; right = «right_steps»; mode = modeOf wrap }) (length (now (out .entry)))) (now (right .entry))) ⌝ }
+    ensures { λ r. ⌜ (let asked : Level = record { left = «left_steps»; right = «right_steps»; mode = modeOf wrap } in
+        let plan = levelPlan (now (file .entry)) (now (left .entry)) (now (right .entry)) asked (length (now (out .entry))) in
+        let face = levelFace (levelAnswer plan) (now (written .entry)) (now (peaks .entry)) in
+        (r ≡ face .reply) × (now (written .exit) ≡ face .written) × (now (peaks .exit) ≡ face .peaks)
+        × (now (out .exit) ≡ over (levelBytes plan) (now (out .entry))) × (now (left .exit) ≡ leftAfter plan (now (left .entry)))
+        × (now (right .exit) ≡ rightAfter plan (now (right .entry)))) ⌝ }
 {
     let mode = GainMode::from_wrap(wrap);
     let w = level::level(
@@ -71,7 +77,11 @@ pub extern "C" fn zib_undo(
     written: &mut usize,
     peaks: &mut usize,
 ) -> u32
-    ensures { λ r. ⌜ (r ≡ levelFace (levelAnswer (undoPlan (now (file .entry)) (now (left .entry)) (now (right .entry)) (length (now (out .entry))))) (now (written .entry)) (now (peaks .entry)) .reply) × (now (written .exit) ≡ levelFace (levelAnswer (undoPlan (now (file .entry)) (now (left .entry)) (now (right .entry)) (length (now (out .entry))))) (now (written .entry)) (now (peaks .entry)) .written) × (now (peaks .exit) ≡ levelFace (levelAnswer (undoPlan (now (file .entry)) (now (left .entry)) (now (right .entry)) (length (now (out .entry))))) (now (written .entry)) (now (peaks .entry)) .peaks) × (now (out .exit) ≡ over (levelBytes (undoPlan (now (file .entry)) (now (left .entry)) (now (right .entry)) (length (now (out .entry))))) (now (out .entry))) × (now (left .exit) ≡ leftAfter (undoPlan (now (file .entry)) (now (left .entry)) (now (right .entry)) (length (now (out .entry)))) (now (left .entry))) × (now (right .exit) ≡ rightAfter (undoPlan (now (file .entry)) (now (left .entry)) (now (right .entry)) (length (now (out .entry)))) (now (right .entry))) ⌝ }
+    ensures { λ r. ⌜ (let plan = undoPlan (now (file .entry)) (now (left .entry)) (now (right .entry)) (length (now (out .entry))) in
+        let face = levelFace (levelAnswer plan) (now (written .entry)) (now (peaks .entry)) in
+        (r ≡ face .reply) × (now (written .exit) ≡ face .written) × (now (peaks .exit) ≡ face .peaks)
+        × (now (out .exit) ≡ over (levelBytes plan) (now (out .entry))) × (now (left .exit) ≡ leftAfter plan (now (left .entry)))
+        × (now (right .exit) ≡ rightAfter plan (now (right .entry)))) ⌝ }
 {
     let w = undo::undo(file, left, right, out);
     put_answer(w, written, peaks)
@@ -89,7 +99,10 @@ pub extern "C" fn zib_shift_stored_gain(
     items: &mut usize,
     written: &mut usize,
 ) -> u32
-    ensures { λ r. ⌜ (r ≡ editedFace (answer (shiftPlan (modeOf wrap) steps count (now (area .entry)) (length (now (out .entry))))) (now (items .entry)) (now (written .entry)) .reply) × (now (items .exit) ≡ editedFace (answer (shiftPlan (modeOf wrap) steps count (now (area .entry)) (length (now (out .entry))))) (now (items .entry)) (now (written .entry)) .items) × (now (written .exit) ≡ editedFace (answer (shiftPlan (modeOf wrap) steps count (now (area .entry)) (length (now (out .entry))))) (now (items .entry)) (now (written .entry)) .written) × (now (out .exit) ≡ over (bytes (shiftPlan (modeOf wrap) steps count (now (area .entry)) (length (now (out .entry))))) (now (out .entry))) ⌝ }
+    ensures { λ r. ⌜ (let plan = shiftPlan (modeOf wrap) steps count (now (area .entry)) (length (now (out .entry))) in
+        let face = editedFace (answer plan) (now (items .entry)) (now (written .entry)) in
+        (r ≡ face .reply) × (now (items .exit) ≡ face .items) × (now (written .exit) ≡ face .written)
+        × (now (out .exit) ≡ over (bytes plan) (now (out .entry)))) ⌝ }
 {
     let mode = GainMode::from_wrap(wrap);
     let e = area_shift::shift_stored_gain(area, count, GainSteps(steps), mode, out);

@@ -18,7 +18,9 @@ pub extern "C" fn zib_is_utf8(text: &[u8]) -> bool
 // Writes the text, with U+FFFD in place of each ill-formed part, at the front of `out`, and its length into `written`. Refusal 5.
 #[no_mangle]
 pub extern "C" fn zib_lossy_into(text: &[u8], out: &mut [u8], written: &mut usize) -> u32
-    ensures { λ r. ⌜ (r ≡ conversion (answer (within (length (now (out .entry))) (lossy (now (text .entry))))) (now (written .entry)) .reply) × (now (written .exit) ≡ conversion (answer (within (length (now (out .entry))) (lossy (now (text .entry))))) (now (written .entry)) .written) × (now (out .exit) ≡ over (bytes (within (length (now (out .entry))) (lossy (now (text .entry))))) (now (out .entry))) ⌝ }
+    ensures { λ r. ⌜ (let plan = within (length (now (out .entry))) (lossy (now (text .entry))) in
+        (r ≡ conversion (answer plan) (now (written .entry)) .reply)
+        × (now (written .exit) ≡ conversion (answer plan) (now (written .entry)) .written) × (now (out .exit) ≡ over (bytes plan) (now (out .entry)))) ⌝ }
 {
     let x = utf8::lossy_into(text, out);
     match x {

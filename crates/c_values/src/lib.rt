@@ -35,7 +35,8 @@ fn mode_number(mode: GainMode) -> u32
 // Writes a text at the front of `out`, and its length into `written`. Refusal 5.
 fn put_text(text: Text, out: &mut [u8], written: &mut usize) -> u32
     requires { ⌜ text .len ≤ length (text .bytes) ⌝ }
-    ensures { λ r. ⌜ (r ≡ textFace (take (text .len) (text .bytes)) (now (out .entry)) (now (written .entry)) .reply) × (now (written .exit) ≡ textFace (take (text .len) (text .bytes)) (now (out .entry)) (now (written .entry)) .written) × (now (out .exit) ≡ textFace (take (text .len) (text .bytes)) (now (out .entry)) (now (written .entry)) .out) ⌝ }
+    ensures { λ r. ⌜ (let face = textFace (take (text .len) (text .bytes)) (now (out .entry)) (now (written .entry)) in
+        (r ≡ face .reply) × (now (written .exit) ≡ face .written) × (now (out .exit) ≡ face .out)) ⌝ }
 {
     let n = text.len;
     if out.len() < n {
@@ -54,7 +55,8 @@ pub extern "C" fn zib_parse_undo(
     right: &mut i32,
     wrap: &mut u32,
 ) -> u32
-    ensures { λ r. ⌜ (r ≡ 0) × (now (left .exit) ≡ parseUndo (now (text .entry)) .left) × (now (right .exit) ≡ parseUndo (now (text .entry)) .right) × (now (wrap .exit) ≡ flag (undoWraps (now (text .entry)))) ⌝ }
+    ensures { λ r. ⌜ (r ≡ 0) × (now (left .exit) ≡ parseUndo (now (text .entry)) .left) × (now (right .exit) ≡ parseUndo (now (text .entry)) .right)
+        × (now (wrap .exit) ≡ flag (undoWraps (now (text .entry)))) ⌝ }
 {
     let undo = values::parse_undo_values(text);
     let a = undo.left;
@@ -74,7 +76,8 @@ pub extern "C" fn zib_format_undo_value(
     out: &mut [u8],
     written: &mut usize,
 ) -> u32
-    ensures { λ r. ⌜ (r ≡ textFace (formatUndo left right wrap) (now (out .entry)) (now (written .entry)) .reply) × (now (written .exit) ≡ textFace (formatUndo left right wrap) (now (out .entry)) (now (written .entry)) .written) × (now (out .exit) ≡ textFace (formatUndo left right wrap) (now (out .entry)) (now (written .entry)) .out) ⌝ }
+    ensures { λ r. ⌜ (let face = textFace (formatUndo left right wrap) (now (out .entry)) (now (written .entry)) in
+        (r ≡ face .reply) × (now (written .exit) ≡ face .written) × (now (out .exit) ≡ face .out)) ⌝ }
 {
     let text = values::format_undo_value(left, right, wrap);
     put_text(text, out, written)
@@ -89,7 +92,8 @@ pub extern "C" fn zib_accumulate_undo(
     newleft: &mut i32,
     newright: &mut i32,
 ) -> u32
-    ensures { λ r. ⌜ (r ≡ 0) × (now (newleft .exit) ≡ accumulated (now (text .entry)) left right .left) × (now (newright .exit) ≡ accumulated (now (text .entry)) left right .right) ⌝ }
+    ensures { λ r. ⌜ (r ≡ 0) × (now (newleft .exit) ≡ accumulated (now (text .entry)) left right .left)
+        × (now (newright .exit) ≡ accumulated (now (text .entry)) left right .right) ⌝ }
 {
     let undo = values::accumulate_undo(text, GainSteps(left), GainSteps(right));
     let a = undo.left;
@@ -107,7 +111,9 @@ pub extern "C" fn zib_format_minmax(
     out: &mut [u8],
     written: &mut usize,
 ) -> u32
-    ensures { λ r. ⌜ (r ≡ textFace (formatRange (record { least = least; greatest = greatest })) (now (out .entry)) (now (written .entry)) .reply) × (now (written .exit) ≡ textFace (formatRange (record { least = least; greatest = greatest })) (now (out .entry)) (now (written .entry)) .written) × (now (out .exit) ≡ textFace (formatRange (record { least = least; greatest = greatest })) (now (out .entry)) (now (written .entry)) .out) ⌝ }
+    ensures { λ r. ⌜ (let text = formatRange (record { least = least; greatest = greatest }) in
+        let face = textFace text (now (out .entry)) (now (written .entry)) in
+        (r ≡ face .reply) × (now (written .exit) ≡ face .written) × (now (out .exit) ≡ face .out)) ⌝ }
 {
     let text = values::format_minmax(least, greatest);
     put_text(text, out, written)
@@ -131,7 +137,9 @@ pub extern "C" fn zib_shift_stored_value(
     out: &mut [u8],
     written: &mut usize,
 ) -> u32
-    ensures { λ r. ⌜ (r ≡ shiftFace (shiftStored (now (key .entry)) (now (value .entry)) steps) (now (out .entry)) (now (moved .entry)) (now (written .entry)) .reply) × (now (moved .exit) ≡ shiftFace (shiftStored (now (key .entry)) (now (value .entry)) steps) (now (out .entry)) (now (moved .entry)) (now (written .entry)) .moved) × (now (written .exit) ≡ shiftFace (shiftStored (now (key .entry)) (now (value .entry)) steps) (now (out .entry)) (now (moved .entry)) (now (written .entry)) .written) × (now (out .exit) ≡ shiftFace (shiftStored (now (key .entry)) (now (value .entry)) steps) (now (out .entry)) (now (moved .entry)) (now (written .entry)) .out) ⌝ }
+    ensures { λ r. ⌜ (let shifted = shiftStored (now (key .entry)) (now (value .entry)) steps in
+        let face = shiftFace shifted (now (out .entry)) (now (moved .entry)) (now (written .entry)) in
+        (r ≡ face .reply) × (now (moved .exit) ≡ face .moved) × (now (written .exit) ≡ face .written) × (now (out .exit) ≡ face .out)) ⌝ }
 {
     let s = values::shift_stored_value(key, value, GainSteps(steps));
     if !s.moved {
@@ -154,7 +162,8 @@ pub extern "C" fn zib_parse_slip(
     right: &mut i32,
     wrap: &mut u32,
 ) -> u32
-    ensures { λ r. ⌜ (r ≡ slipFace (readSlip (now (text .entry))) (now (left .entry)) (now (right .entry)) (now (wrap .entry)) .reply) × (now (left .exit) ≡ slipFace (readSlip (now (text .entry))) (now (left .entry)) (now (right .entry)) (now (wrap .entry)) .left) × (now (right .exit) ≡ slipFace (readSlip (now (text .entry))) (now (left .entry)) (now (right .entry)) (now (wrap .entry)) .right) × (now (wrap .exit) ≡ slipFace (readSlip (now (text .entry))) (now (left .entry)) (now (right .entry)) (now (wrap .entry)) .wrap) ⌝ }
+    ensures { λ r. ⌜ (let face = slipFace (readSlip (now (text .entry))) (now (left .entry)) (now (right .entry)) (now (wrap .entry)) in
+        (r ≡ face .reply) × (now (left .exit) ≡ face .left) × (now (right .exit) ≡ face .right) × (now (wrap .exit) ≡ face .wrap)) ⌝ }
 {
     let s = slip::parse_slip(text);
     match s {

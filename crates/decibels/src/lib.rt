@@ -36,7 +36,8 @@ pub fn steps_to_db(steps: GainSteps) -> Millionths
 // The difference of two amounts of one sign, the first of whole millionths. Zero keeps the sign.
 fn apart(minus: bool, m: u64, b: Millionths) -> Millionths
     requires { ⌜ (m < 10000000000) × (b .1 < 3300000000000000) × (b .2 < 1000000000) ⌝ }
-    ensures { λ r. ⌜ (r ≡ G.amount minus (withSign minus (m * 1000000000) -ℤ withSign minus (G.units b))) × (r .1 < 3300010000000000) × (r .2 < 1000000000) ⌝ }
+    ensures { λ r. ⌜ (r ≡ G.amount minus (withSign minus (m * 1000000000) -ℤ withSign minus (G.units b))) × (r .1 < 3300010000000000)
+        × (r .2 < 1000000000) ⌝ }
 {
     if m < b.1 {
         return Millionths(!minus, b.1 - m, b.2);

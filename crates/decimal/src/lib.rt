@@ -67,7 +67,8 @@ pub fn put_places(out: &mut [u8], at: usize, k: usize, n: u32) -> usize
 // Writes `n` with `least` digits, or as many more as it has, `most` in all.
 pub fn put_decimal(out: &mut [u8], at: usize, n: u32, least: usize, most: usize, past: u64) -> usize
     requires { ⌜ (at + most ≤ length (now out)) × (least ≤ most) × (past ≡ 10 ^ least) ⌝ }
-    ensures { λ r. ⌜ (r ≡ at + length (W.decimal least (most - least) n)) × (now (out .exit) ≡ splice (now (out .entry)) at (W.decimal least (most - least) n)) × (r ≤ at + most) ⌝ }
+    ensures { λ r. ⌜ (r ≡ at + length (W.decimal least (most - least) n))
+        × (now (out .exit) ≡ splice (now (out .entry)) at (W.decimal least (most - least) n)) × (r ≤ at + most) ⌝ }
 {
     let k = width(n, least, most, past);
     put_places(out, at, k, n)

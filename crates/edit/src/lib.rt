@@ -131,7 +131,8 @@ pub fn small_scratch() -> [u8; 4096]
 // The file with the items of a well-formed area in place of its own: refusals 6 and 5, the last of every call that writes a file.
 pub fn finish(file: &[u8], area: &[u8], count: usize, out: &mut [u8]) -> Written
     requires { ⌜ (length (now file) ≤ 16777216) × (isSome (parse count (now area)) ≡ true) ⌝ }
-    ensures { λ r. ⌜ (r ≡ writtenAnswer (tagPlan (now (file .entry)) (itemsIn count (now (area .entry))) (length (now (out .entry))))) × (now (out .exit) ≡ over (writtenBytes (tagPlan (now (file .entry)) (itemsIn count (now (area .entry))) (length (now (out .entry))))) (now (out .entry))) ⌝ }
+    ensures { λ r. ⌜ (let plan = tagPlan (now (file .entry)) (itemsIn count (now (area .entry))) (length (now (out .entry))) in
+        (r ≡ writtenAnswer plan) × (now (out .exit) ≡ over (writtenBytes plan) (now (out .entry)))) ⌝ }
 {
     if replies::COUNT_LIMIT < count {
         return Written::Refused(Refusal::TagTooLarge);
@@ -153,8 +154,10 @@ fn set_item_in(
     new: &mut [u8],
     out: &mut [u8],
 ) -> Written
-    requires { ⌜ (Passed (now file) start end count) × (length (now file) ≤ 16777216) × (isKey (now key) ≡ true) × (length (now value) ≤ 32768) × (end - start + 9 + length (now key) + length (now value) ≤ length (now new)) ⌝ }
-    ensures { λ r. ⌜ (r ≡ writtenAnswer (tagPlan (now (file .entry)) (setItem (now (key .entry)) (now (value .entry)) (itemsOf (now (file .entry)))) (length (now (out .entry))))) × (now (out .exit) ≡ over (writtenBytes (tagPlan (now (file .entry)) (setItem (now (key .entry)) (now (value .entry)) (itemsOf (now (file .entry)))) (length (now (out .entry))))) (now (out .entry))) ⌝ }
+    requires { ⌜ (Passed (now file) start end count) × (length (now file) ≤ 16777216) × (isKey (now key) ≡ true) × (length (now value) ≤ 32768)
+        × (end - start + 9 + length (now key) + length (now value) ≤ length (now new)) ⌝ }
+    ensures { λ r. ⌜ (let plan = tagPlan (now (file .entry)) (setItem (now (key .entry)) (now (value .entry)) (itemsOf (now (file .entry)))) (length (now (out .entry))) in
+        (r ≡ writtenAnswer plan) × (now (out .exit) ≡ over (writtenBytes plan) (now (out .entry)))) ⌝ }
 {
     let area = &file[start..end];
     let p = items::locate(area, count, key);
@@ -174,7 +177,8 @@ fn set_item(
     out: &mut [u8],
 ) -> Written
     requires { ⌜ (Passed (now file) start end count) × (length (now file) ≤ 16777216) × (isKey (now key) ≡ true) × (length (now value) ≤ 32768) ⌝ }
-    ensures { λ r. ⌜ (r ≡ writtenAnswer (tagPlan (now (file .entry)) (setItem (now (key .entry)) (now (value .entry)) (itemsOf (now (file .entry)))) (length (now (out .entry))))) × (now (out .exit) ≡ over (writtenBytes (tagPlan (now (file .entry)) (setItem (now (key .entry)) (now (value .entry)) (itemsOf (now (file .entry)))) (length (now (out .entry))))) (now (out .entry))) ⌝ }
+    ensures { λ r. ⌜ (let plan = tagPlan (now (file .entry)) (setItem (now (key .entry)) (now (value .entry)) (itemsOf (now (file .entry)))) (length (now (out .entry))) in
+        (r ≡ writtenAnswer plan) × (now (out .exit) ≡ over (writtenBytes plan) (now (out .entry)))) ⌝ }
 {
     if end - start + 9 + key.len() + value.len() <= 4096 {
         let mut new = small_scratch();
@@ -186,7 +190,8 @@ fn set_item(
 
 // The file with this value at the first item with this key, or with one more item: refusals 1, 3, 4, 8, 6 and 5.
 pub fn set_ape_item(file: &[u8], key: &[u8], value: &[u8], out: &mut [u8]) -> Written
-    ensures { λ r. ⌜ (r ≡ writtenAnswer (setPlan (now (file .entry)) (now (key .entry)) (now (value .entry)) (length (now (out .entry))))) × (now (out .exit) ≡ over (writtenBytes (setPlan (now (file .entry)) (now (key .entry)) (now (value .entry)) (length (now (out .entry))))) (now (out .entry))) ⌝ }
+    ensures { λ r. ⌜ (let plan = setPlan (now (file .entry)) (now (key .entry)) (now (value .entry)) (length (now (out .entry))) in
+        (r ≡ writtenAnswer plan) × (now (out .exit) ≡ over (writtenBytes plan) (now (out .entry)))) ⌝ }
 {
     if replies::FILE_LIMIT < file.len() {
         return Written::Refused(Refusal::FileTooLong);
@@ -219,7 +224,8 @@ fn drop_items_in(
     out: &mut [u8],
 ) -> Written
     requires { ⌜ (Passed (now file) start end count) × (length (now file) ≤ 16777216) × (end - start ≤ length (now new)) ⌝ }
-    ensures { λ r. ⌜ (r ≡ writtenAnswer (tagPlan (now (file .entry)) (without (dropped what (now (key .entry))) (itemsOf (now (file .entry)))) (length (now (out .entry))))) × (now (out .exit) ≡ over (writtenBytes (tagPlan (now (file .entry)) (without (dropped what (now (key .entry))) (itemsOf (now (file .entry)))) (length (now (out .entry))))) (now (out .entry))) ⌝ }
+    ensures { λ r. ⌜ (let plan = tagPlan (now (file .entry)) (without (dropped what (now (key .entry))) (itemsOf (now (file .entry)))) (length (now (out .entry))) in
+        (r ≡ writtenAnswer plan) × (now (out .exit) ≡ over (writtenBytes plan) (now (out .entry)))) ⌝ }
 {
     let area = &file[start..end];
     let m = area_edit::measure_without(area, count, what, key);
@@ -245,7 +251,8 @@ pub fn drop_items(
     out: &mut [u8],
 ) -> Written
     requires { ⌜ (Passed (now file) start end count) × (length (now file) ≤ 16777216) ⌝ }
-    ensures { λ r. ⌜ (r ≡ writtenAnswer (tagPlan (now (file .entry)) (without (dropped what (now (key .entry))) (itemsOf (now (file .entry)))) (length (now (out .entry))))) × (now (out .exit) ≡ over (writtenBytes (tagPlan (now (file .entry)) (without (dropped what (now (key .entry))) (itemsOf (now (file .entry)))) (length (now (out .entry))))) (now (out .entry))) ⌝ }
+    ensures { λ r. ⌜ (let plan = tagPlan (now (file .entry)) (without (dropped what (now (key .entry))) (itemsOf (now (file .entry)))) (length (now (out .entry))) in
+        (r ≡ writtenAnswer plan) × (now (out .exit) ≡ over (writtenBytes plan) (now (out .entry)))) ⌝ }
 {
     if end - start <= 4096 {
         let mut new = small_scratch();
@@ -257,7 +264,8 @@ pub fn drop_items(
 
 // The file without the items with this key: refusals 1, 3, 8, 6 and 5.
 pub fn remove_ape_item(file: &[u8], key: &[u8], out: &mut [u8]) -> Written
-    ensures { λ r. ⌜ (r ≡ writtenAnswer (removePlan (now (file .entry)) (now (key .entry)) (length (now (out .entry))))) × (now (out .exit) ≡ over (writtenBytes (removePlan (now (file .entry)) (now (key .entry)) (length (now (out .entry))))) (now (out .entry))) ⌝ }
+    ensures { λ r. ⌜ (let plan = removePlan (now (file .entry)) (now (key .entry)) (length (now (out .entry))) in
+        (r ≡ writtenAnswer plan) × (now (out .exit) ≡ over (writtenBytes plan) (now (out .entry)))) ⌝ }
 {
     if replies::FILE_LIMIT < file.len() {
         return Written::Refused(Refusal::FileTooLong);

@@ -40,7 +40,8 @@ fn greater(a: u8, b: u8) -> u8
 
 // A range that also holds the gains of a list as they will be.
 fn widened(range: Range, gains: &[u8], steps: GainSteps, mode: GainMode) -> Range
-    ensures { λ r. ⌜ (r .least ≡ min (range .least) (least (adjusted mode (steps .0) (now (gains .entry))))) × (r .greatest ≡ max (range .greatest) (greatest (adjusted mode (steps .0) (now (gains .entry))))) ⌝ }
+    ensures { λ r. ⌜ (let moved = adjusted mode (steps .0) (now (gains .entry)) in
+        (r .least ≡ min (range .least) (least moved)) × (r .greatest ≡ max (range .greatest) (greatest moved))) ⌝ }
 {
     let mut low = range.least;
     let mut high = range.greatest;

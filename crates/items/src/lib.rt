@@ -244,7 +244,8 @@ pub fn get<'a>(
     status: &mut u32,
     there: &mut bool,
 ) -> &'a [u8]
-    ensures { λ r. ⌜ (now r ≡ valueOf (now (area .entry)) (findOf (now (area .entry)) count (now (key .entry)))) × (now (status .exit) ≡ replyTo (findOf (now (area .entry)) count (now (key .entry)))) × (now (there .exit) ≡ isThere (findOf (now (area .entry)) count (now (key .entry)))) ⌝ }
+    ensures { λ r. ⌜ (let found = findOf (now (area .entry)) count (now (key .entry)) in
+        (now r ≡ valueOf (now (area .entry)) found) × (now (status .exit) ≡ replyTo found) × (now (there .exit) ≡ isThere found)) ⌝ }
 {
     let f = find(area, count, key);
     *status = reply(f);

@@ -9,7 +9,7 @@ ghost use Rattle.items.specs.Items.{parse, itemsIn};
 ghost use Rattle.items.specs.Answers.{isThere, valueOf};
 ghost use Rattle.ape_write.specs.Answers.{writtenBytes};
 ghost use Rattle.calls.specs.Gate.{itemsOf};
-ghost use Rattle.calls.specs.Calls.{agrees, isUndoNumber, booked, countOf, isPeakKey, levelPlan};
+ghost use Rattle.calls.specs.Calls.{Level, agrees, isUndoNumber, booked, countOf, isPeakKey, levelPlan};
 ghost use Rattle.edit.specs.Gate.{Passed, tagPlan};
 ghost use Rattle.level_items.specs.Items.{rangedItems};
 ghost use Rattle.level.specs.Answers.{levelAnswer, levelBytes, leftAfter, rightAfter, bookedPlan, bookedAnswer, lastPlan, filedAnswer};
@@ -84,7 +84,9 @@ fn book_undo(
 // The file with the items of a well-formed area, and how many of these hold a peak: refusals 6 and 5.
 fn filed(file: &[u8], area: &[u8], count: usize, out: &mut [u8]) -> LevelAnswer
     requires { ⌜ (length (now file) ≤ 16777216) × (isSome (parse count (now area)) ≡ true) ⌝ }
-    ensures { λ r. ⌜ (r ≡ filedAnswer (tagPlan (now (file .entry)) (itemsIn count (now (area .entry))) (length (now (out .entry)))) (countOf isPeakKey (itemsIn count (now (area .entry))))) × (now (out .exit) ≡ over (writtenBytes (tagPlan (now (file .entry)) (itemsIn count (now (area .entry))) (length (now (out .entry))))) (now (out .entry))) ⌝ }
+    ensures { λ r. ⌜ (let plan = tagPlan (now (file .entry)) (itemsIn count (now (area .entry))) (length (now (out .entry))) in
+        (r ≡ filedAnswer plan (countOf isPeakKey (itemsIn count (now (area .entry)))))
+        × (now (out .exit) ≡ over (writtenBytes plan) (now (out .entry)))) ⌝ }
 {
     let peaks = level_items::count_peaks(area, count);
     let w = edit::finish(file, area, count, out);
@@ -109,8 +111,12 @@ fn write_file_in(
     new: &mut [u8],
     out: &mut [u8],
 ) -> LevelAnswer
-    requires { ⌜ (Passed (now file) start end count) × (length (now file) ≤ 16777216) × (end - start + 32 * count + 76 ≤ length (now work)) × (end - start + 32 * count + 76 ≤ length (now new)) ⌝ }
-    ensures { λ r. ⌜ (r ≡ filedAnswer (tagPlan (now (file .entry)) (rangedItems (record { left = «left_steps» .0; right = «right_steps» .0; mode = mode }) undo range (itemsOf (now (file .entry)))) (length (now (out .entry)))) (countOf isPeakKey (rangedItems (record { left = «left_steps» .0; right = «right_steps» .0; mode = mode }) undo range (itemsOf (now (file .entry)))))) × (now (out .exit) ≡ over (writtenBytes (tagPlan (now (file .entry)) (rangedItems (record { left = «left_steps» .0; right = «right_steps» .0; mode = mode }) undo range (itemsOf (now (file .entry)))) (length (now (out .entry))))) (now (out .entry))) ⌝ }
+    requires { ⌜ (Passed (now file) start end count) × (length (now file) ≤ 16777216) × (end - start + 32 * count + 76 ≤ length (now work))
+        × (end - start + 32 * count + 76 ≤ length (now new)) ⌝ }
+    ensures { λ r. ⌜ (let asked : Level = record { left = «left_steps» .0; right = «right_steps» .0; mode = mode } in
+        let ts = rangedItems asked undo range (itemsOf (now (file .entry))) in
+        let plan = tagPlan (now (file .entry)) ts (length (now (out .entry))) in
+        (r ≡ filedAnswer plan (countOf isPeakKey ts)) × (now (out .exit) ≡ over (writtenBytes plan) (now (out .entry)))) ⌝ }
 {
     let m = level_items::write_items(
         &file[start..end],
@@ -141,7 +147,10 @@ fn write_file(
     out: &mut [u8],
 ) -> LevelAnswer
     requires { ⌜ (Passed (now file) start end count) × (length (now file) ≤ 16777216) ⌝ }
-    ensures { λ r. ⌜ (r ≡ filedAnswer (tagPlan (now (file .entry)) (rangedItems (record { left = «left_steps» .0; right = «right_steps» .0; mode = mode }) undo range (itemsOf (now (file .entry)))) (length (now (out .entry)))) (countOf isPeakKey (rangedItems (record { left = «left_steps» .0; right = «right_steps» .0; mode = mode }) undo range (itemsOf (now (file .entry)))))) × (now (out .exit) ≡ over (writtenBytes (tagPlan (now (file .entry)) (rangedItems (record { left = «left_steps» .0; right = «right_steps» .0; mode = mode }) undo range (itemsOf (now (file .entry)))) (length (now (out .entry))))) (now (out .entry))) ⌝ }
+    ensures { λ r. ⌜ (let asked : Level = record { left = «left_steps» .0; right = «right_steps» .0; mode = mode } in
+        let ts = rangedItems asked undo range (itemsOf (now (file .entry))) in
+        let plan = tagPlan (now (file .entry)) ts (length (now (out .entry))) in
+        (r ≡ filedAnswer plan (countOf isPeakKey ts)) × (now (out .exit) ≡ over (writtenBytes plan) (now (out .entry)))) ⌝ }
 {
     if end - start + 32 * count <= 4020 {
         let mut work = edit::small_scratch();
@@ -193,8 +202,12 @@ fn level_booked(
     undo: UndoValues,
     out: &mut [u8],
 ) -> LevelAnswer
-    requires { ⌜ (Passed (now file) start end count) × (length (now file) ≤ 16777216) × (undo ≡ booked (record { left = «left_steps» .0; right = «right_steps» .0; mode = mode }) (itemsOf (now file))) ⌝ }
-    ensures { λ r. ⌜ (r ≡ levelAnswer (lastPlan (now (file .entry)) (now (left .entry)) (now (right .entry)) (record { left = «left_steps» .0; right = «right_steps» .0; mode = mode }) (length (now (out .entry))))) × (now (out .exit) ≡ over (levelBytes (lastPlan (now (file .entry)) (now (left .entry)) (now (right .entry)) (record { left = «left_steps» .0; right = «right_steps» .0; mode = mode }) (length (now (out .entry))))) (now (out .entry))) × (now (left .exit) ≡ leftAfter (lastPlan (now (file .entry)) (now (left .entry)) (now (right .entry)) (record { left = «left_steps» .0; right = «right_steps» .0; mode = mode }) (length (now (out .entry)))) (now (left .entry))) × (now (right .exit) ≡ rightAfter (lastPlan (now (file .entry)) (now (left .entry)) (now (right .entry)) (record { left = «left_steps» .0; right = «right_steps» .0; mode = mode }) (length (now (out .entry)))) (now (right .entry))) ⌝ }
+    requires { ⌜ (Passed (now file) start end count) × (length (now file) ≤ 16777216)
+        × (undo ≡ booked (record { left = «left_steps» .0; right = «right_steps» .0; mode = mode }) (itemsOf (now file))) ⌝ }
+    ensures { λ r. ⌜ (let asked : Level = record { left = «left_steps» .0; right = «right_steps» .0; mode = mode } in
+        let plan = lastPlan (now (file .entry)) (now (left .entry)) (now (right .entry)) asked (length (now (out .entry))) in
+        (r ≡ levelAnswer plan) × (now (out .exit) ≡ over (levelBytes plan) (now (out .entry)))
+        × (now (left .exit) ≡ leftAfter plan (now (left .entry))) × (now (right .exit) ≡ rightAfter plan (now (right .entry)))) ⌝ }
 {
     let range = gains::range_after(left, right, left_steps, right_steps, mode);
     let a = write_file(
@@ -232,7 +245,10 @@ pub fn level(
     mode: GainMode,
     out: &mut [u8],
 ) -> LevelAnswer
-    ensures { λ r. ⌜ (r ≡ levelAnswer (levelPlan (now (file .entry)) (now (left .entry)) (now (right .entry)) (record { left = «left_steps» .0; right = «right_steps» .0; mode = mode }) (length (now (out .entry))))) × (now (out .exit) ≡ over (levelBytes (levelPlan (now (file .entry)) (now (left .entry)) (now (right .entry)) (record { left = «left_steps» .0; right = «right_steps» .0; mode = mode }) (length (now (out .entry))))) (now (out .entry))) × (now (left .exit) ≡ leftAfter (levelPlan (now (file .entry)) (now (left .entry)) (now (right .entry)) (record { left = «left_steps» .0; right = «right_steps» .0; mode = mode }) (length (now (out .entry)))) (now (left .entry))) × (now (right .exit) ≡ rightAfter (levelPlan (now (file .entry)) (now (left .entry)) (now (right .entry)) (record { left = «left_steps» .0; right = «right_steps» .0; mode = mode }) (length (now (out .entry)))) (now (right .entry))) ⌝ }
+    ensures { λ r. ⌜ (let asked : Level = record { left = «left_steps» .0; right = «right_steps» .0; mode = mode } in
+        let plan = levelPlan (now (file .entry)) (now (left .entry)) (now (right .entry)) asked (length (now (out .entry))) in
+        (r ≡ levelAnswer plan) × (now (out .exit) ≡ over (levelBytes plan) (now (out .entry)))
+        × (now (left .exit) ≡ leftAfter plan (now (left .entry))) × (now (right .exit) ≡ rightAfter plan (now (right .entry)))) ⌝ }
 {
     if replies::FILE_LIMIT < file.len() {
         return LevelAnswer::Refused(Refusal::FileTooLong);

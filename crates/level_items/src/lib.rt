@@ -10,7 +10,7 @@ ghost use Rattle.keys.specs.Keys.{undoKey, minmaxKey};
 ghost use Rattle.values.specs.Undo.{formatUndo};
 ghost use Rattle.values.specs.Range.{formatRange};
 ghost use Rattle.items.specs.Items.{areaBytes, parse, itemsIn, setItem};
-ghost use Rattle.calls.specs.Calls.{wraps as wrapsBy, shiftedItems, countOf, isPeakKey};
+ghost use Rattle.calls.specs.Calls.{Level, wraps as wrapsBy, shiftedItems, countOf, isPeakKey};
 ghost use Rattle.level_items.specs.Items.{Wrote, undoneItems, rangedItems};
 use area_edit::Drop;
 use area_edit::Measure;
@@ -34,7 +34,8 @@ fn wraps(mode: GainMode) -> bool
 
 // Writes a well-formed area with this item set to the front of `out`.
 fn put_set(area: &[u8], count: usize, key: &[u8], value: &[u8], out: &mut [u8]) -> Measure
-    requires { ⌜ (isSome (parse count (now area)) ≡ true) × (length (now value) ≤ fileLimit) × (length (areaBytes (setItem (now key) (now value) (itemsIn count (now area)))) ≤ length (now out)) ⌝ }
+    requires { ⌜ (isSome (parse count (now area)) ≡ true) × (length (now value) ≤ fileLimit)
+        × (length (areaBytes (setItem (now key) (now value) (itemsIn count (now area)))) ≤ length (now out)) ⌝ }
     ensures { λ r. ⌜ Wrote (setItem (now (key .entry)) (now (value .entry)) (itemsIn count (now (area .entry)))) (now (out .entry)) r (now (out .exit)) ⌝ }
 {
     let p = items::locate(area, count, key);
@@ -43,7 +44,8 @@ fn put_set(area: &[u8], count: usize, key: &[u8], value: &[u8], out: &mut [u8]) 
 
 // Writes a well-formed area with the undo item of these numbers to the front of `out`.
 fn put_undo(area: &[u8], count: usize, undo: UndoValues, mode: GainMode, out: &mut [u8]) -> Measure
-    requires { ⌜ (isSome (parse count (now area)) ≡ true) × (length (areaBytes (setItem undoKey (formatUndo (undo .left) (undo .right) (wrapsBy mode)) (itemsIn count (now area)))) ≤ length (now out)) ⌝ }
+    requires { ⌜ (isSome (parse count (now area)) ≡ true)
+        × (length (areaBytes (setItem undoKey (formatUndo (undo .left) (undo .right) (wrapsBy mode)) (itemsIn count (now area)))) ≤ length (now out)) ⌝ }
     ensures { λ r. ⌜ Wrote (setItem undoKey (formatUndo (undo .left) (undo .right) (wrapsBy mode)) (itemsIn count (now (area .entry)))) (now (out .entry)) r (now (out .exit)) ⌝ }
 {
     let text = values::format_undo_value(undo.left, undo.right, wraps(mode));
@@ -54,7 +56,8 @@ fn put_undo(area: &[u8], count: usize, undo: UndoValues, mode: GainMode, out: &m
 
 // Writes a well-formed area with this range to the front of `out`.
 fn put_range(area: &[u8], count: usize, range: Range, out: &mut [u8]) -> Measure
-    requires { ⌜ (isSome (parse count (now area)) ≡ true) × (length (areaBytes (setItem minmaxKey (formatRange range) (itemsIn count (now area)))) ≤ length (now out)) ⌝ }
+    requires { ⌜ (isSome (parse count (now area)) ≡ true)
+        × (length (areaBytes (setItem minmaxKey (formatRange range) (itemsIn count (now area)))) ≤ length (now out)) ⌝ }
     ensures { λ r. ⌜ Wrote (setItem minmaxKey (formatRange range) (itemsIn count (now (area .entry)))) (now (out .entry)) r (now (out .exit)) ⌝ }
 {
     let text = values::format_minmax(range.least, range.greatest);
@@ -73,7 +76,8 @@ fn put_moved(
     mode: GainMode,
     out: &mut [u8],
 ) -> Measure
-    requires { ⌜ (isSome (parse count (now area)) ≡ true) × (length (areaBytes (shiftedItems (record { left = left .0; right = right .0; mode = mode }) (itemsIn count (now area)))) ≤ length (now out)) ⌝ }
+    requires { ⌜ (isSome (parse count (now area)) ≡ true)
+        × (length (areaBytes (shiftedItems (record { left = left .0; right = right .0; mode = mode }) (itemsIn count (now area)))) ≤ length (now out)) ⌝ }
     ensures { λ r. ⌜ Wrote (shiftedItems (record { left = left .0; right = right .0; mode = mode }) (itemsIn count (now (area .entry)))) (now (out .entry)) r (now (out .exit)) ⌝ }
 {
     if left.0 == right.0 {
@@ -107,8 +111,11 @@ pub fn write_items(
     work: &mut [u8],
     out: &mut [u8],
 ) -> Measure
-    requires { ⌜ (isSome (parse count (now area)) ≡ true) × (count ≤ 256) × (length (now area) ≤ 32768) × (length (now area) + 32 * count + 76 ≤ length (now work)) × (length (now area) + 32 * count + 76 ≤ length (now out)) ⌝ }
-    ensures { λ r. ⌜ (Wrote (rangedItems (record { left = left .0; right = right .0; mode = mode }) undo range (itemsIn count (now (area .entry)))) (over (areaBytes (shiftedItems (record { left = left .0; right = right .0; mode = mode }) (itemsIn count (now (area .entry))))) (now (out .entry))) r (now (out .exit))) × (now (work .exit) ≡ over (areaBytes (undoneItems (record { left = left .0; right = right .0; mode = mode }) undo (itemsIn count (now (area .entry))))) (now (work .entry))) ⌝ }
+    requires { ⌜ (isSome (parse count (now area)) ≡ true) × (count ≤ 256) × (length (now area) ≤ 32768)
+        × (length (now area) + 32 * count + 76 ≤ length (now work)) × (length (now area) + 32 * count + 76 ≤ length (now out)) ⌝ }
+    ensures { λ r. ⌜ (let asked : Level = record { left = left .0; right = right .0; mode = mode } in
+        (Wrote (rangedItems asked undo range (itemsIn count (now (area .entry)))) (over (areaBytes (shiftedItems asked (itemsIn count (now (area .entry))))) (now (out .entry))) r (now (out .exit)))
+        × (now (work .exit) ≡ over (areaBytes (undoneItems asked undo (itemsIn count (now (area .entry))))) (now (work .entry)))) ⌝ }
 {
     let moved = put_moved(area, count, left, right, mode, out);
     let m = moved.length;

@@ -59,7 +59,8 @@ fn put_byte(out: &mut [u8], at: usize, key: bool, b: u8) -> usize
 // Writes bytes as they print.
 fn put_text(out: &mut [u8], at: usize, key: bool, s: &[u8]) -> usize
     requires { ⌜ at + 3 * length (now s) ≤ length (now out) ⌝ }
-    ensures { λ r. ⌜ (r ≡ at + length (L.printedAll key (now (s .entry)))) × (now (out .exit) ≡ splice (now (out .entry)) at (L.printedAll key (now (s .entry)))) ⌝ }
+    ensures { λ r. ⌜ (r ≡ at + length (L.printedAll key (now (s .entry))))
+        × (now (out .exit) ≡ splice (now (out .entry)) at (L.printedAll key (now (s .entry)))) ⌝ }
 {
     let mut i = 0;
     let mut o = at;
@@ -73,7 +74,8 @@ fn put_text(out: &mut [u8], at: usize, key: bool, s: &[u8]) -> usize
 // Writes the line of an item.
 fn put_line(out: &mut [u8], at: usize, key: &[u8], value: &[u8]) -> usize
     requires { ⌜ at + (3 * length (now key) + 3 * length (now value) + 2) ≤ length (now out) ⌝ }
-    ensures { λ r. ⌜ (r ≡ at + length (L.line (record { key = now (key .entry); value = now (value .entry) }))) × (now (out .exit) ≡ splice (now (out .entry)) at (L.line (record { key = now (key .entry); value = now (value .entry) }))) ⌝ }
+    ensures { λ r. ⌜ (let new = L.line (record { key = now (key .entry); value = now (value .entry) }) in
+        (r ≡ at + length new) × (now (out .exit) ≡ splice (now (out .entry)) at new)) ⌝ }
 {
     let a = put_text(out, at, true, key);
     let b = lists::put(out, a, b"=");
@@ -84,7 +86,8 @@ fn put_line(out: &mut [u8], at: usize, key: &[u8], value: &[u8]) -> usize
 // Writes the lines of a well-formed area.
 fn put_lines(out: &mut [u8], at: usize, area: &[u8], count: usize) -> usize
     requires { ⌜ (isSome (parse count (now area)) ≡ true) × (at + 3 * length (now area) ≤ length (now out)) ⌝ }
-    ensures { λ r. ⌜ (r ≡ at + length (L.lines (itemsIn count (now (area .entry))))) × (now (out .exit) ≡ splice (now (out .entry)) at (L.lines (itemsIn count (now (area .entry))))) ⌝ }
+    ensures { λ r. ⌜ (r ≡ at + length (L.lines (itemsIn count (now (area .entry)))))
+        × (now (out .exit) ≡ splice (now (out .entry)) at (L.lines (itemsIn count (now (area .entry))))) ⌝ }
 {
     let mut from = 0;
     let mut left = count;
@@ -116,7 +119,8 @@ fn put_lines(out: &mut [u8], at: usize, area: &[u8], count: usize) -> usize
 // Writes the number of items and their lines.
 fn put_listed(out: &mut [u8], area: &[u8], count: usize) -> usize
     requires { ⌜ (isSome (parse count (now area)) ≡ true) × (count < 1000000000) × (17 + 3 * length (now area) ≤ length (now out)) ⌝ }
-    ensures { λ r. ⌜ (r ≡ length (L.listed (some (itemsIn count (now (area .entry)))))) × (now (out .exit) ≡ over (L.listed (some (itemsIn count (now (area .entry))))) (now (out .entry))) ⌝ }
+    ensures { λ r. ⌜ (r ≡ length (L.listed (some (itemsIn count (now (area .entry))))))
+        × (now (out .exit) ≡ over (L.listed (some (itemsIn count (now (area .entry))))) (now (out .entry))) ⌝ }
 {
     let a = lists::put(out, 0, b"items=");
     let b = decimal::put_decimal(out, a, count as u32, 1, 10, 10);

@@ -66,7 +66,8 @@ pub fn put(out: &mut [u8], at: usize, src: &[u8]) -> usize
 // Writes the part of `src` between two places into `out` from `at`.
 pub fn put_part(out: &mut [u8], at: usize, src: &[u8], from: usize, to: usize) -> usize
     requires { ⌜ (from ≤ to) × (to ≤ length (now src)) × (at + (to - from) ≤ length (now out)) ⌝ }
-    ensures { λ r. ⌜ (r ≡ at + length (part from to (now (src .entry)))) × (now (out .exit) ≡ splice (now (out .entry)) at (part from to (now (src .entry)))) × (r ≡ at + (to - from)) ⌝ }
+    ensures { λ r. ⌜ (r ≡ at + length (part from to (now (src .entry))))
+        × (now (out .exit) ≡ splice (now (out .entry)) at (part from to (now (src .entry)))) × (r ≡ at + (to - from)) ⌝ }
 {
     put(out, at, &src[from..to])
 }

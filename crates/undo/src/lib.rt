@@ -43,7 +43,9 @@ pub fn stored_undo(area: &[u8], count: usize) -> StoredUndo
 // Every gain moved back by the stored numbers, and the file without the eight keys: refusals 1, 7, 8, 10 and 5. The reply is decided before the
 // first gain changes.
 pub fn undo(file: &[u8], left: &mut [u8], right: &mut [u8], out: &mut [u8]) -> LevelAnswer
-    ensures { λ r. ⌜ (r ≡ levelAnswer (undoPlan (now (file .entry)) (now (left .entry)) (now (right .entry)) (length (now (out .entry))))) × (now (out .exit) ≡ over (levelBytes (undoPlan (now (file .entry)) (now (left .entry)) (now (right .entry)) (length (now (out .entry))))) (now (out .entry))) × (now (left .exit) ≡ leftAfter (undoPlan (now (file .entry)) (now (left .entry)) (now (right .entry)) (length (now (out .entry)))) (now (left .entry))) × (now (right .exit) ≡ rightAfter (undoPlan (now (file .entry)) (now (left .entry)) (now (right .entry)) (length (now (out .entry)))) (now (right .entry))) ⌝ }
+    ensures { λ r. ⌜ (let plan = undoPlan (now (file .entry)) (now (left .entry)) (now (right .entry)) (length (now (out .entry))) in
+        (r ≡ levelAnswer plan) × (now (out .exit) ≡ over (levelBytes plan) (now (out .entry)))
+        × (now (left .exit) ≡ leftAfter plan (now (left .entry))) × (now (right .exit) ≡ rightAfter plan (now (right .entry)))) ⌝ }
 {
     if replies::FILE_LIMIT < file.len() {
         return LevelAnswer::Refused(Refusal::FileTooLong);

@@ -270,7 +270,8 @@ pub fn lossy_put(table: &[u8; 256], out: &mut [u8], at: usize, s: &[u8]) -> usiz
 // Writes the text, with U+FFFD in place of each ill-formed part, at the front of `out` where there is room; else nothing is written.
 // What is written is at least as long as `s`, at most three times as long, and `s` itself where that is UTF-8.
 pub fn lossy_into(s: &[u8], out: &mut [u8]) -> Converted
-    ensures { λ r. ⌜ (r ≡ answer (within (length (now (out .entry))) (lossy (now (s .entry))))) × (now (out .exit) ≡ over (bytes (within (length (now (out .entry))) (lossy (now (s .entry))))) (now (out .entry))) ⌝ }
+    ensures { λ r. ⌜ (let plan = within (length (now (out .entry))) (lossy (now (s .entry))) in
+        (r ≡ answer plan) × (now (out .exit) ≡ over (bytes plan) (now (out .entry)))) ⌝ }
 {
     if out.len() < s.len() {
         return Converted::NoRoom;

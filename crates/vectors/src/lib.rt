@@ -172,7 +172,8 @@ fn hex_byte(text: &[u8], at: usize) -> u32
 
 // Puts the bytes of a word of hex digits at the front of `out`, as many as fit, and answers how many.
 pub fn hex_bytes(text: &[u8], at: usize, out: &mut [u8]) -> usize
-    ensures { λ r. ⌜ (r ≡ length (take (length (now (out .entry))) (W.hexBytes (drop at (now (text .entry)))))) × (now (out .exit) ≡ over (take (length (now (out .entry))) (W.hexBytes (drop at (now (text .entry))))) (now (out .entry))) × (r ≤ length (now (out .entry))) ⌝ }
+    ensures { λ r. ⌜ (let new = take (length (now (out .entry))) (W.hexBytes (drop at (now (text .entry)))) in
+        (r ≡ length new) × (now (out .exit) ≡ over new (now (out .entry))) × (r ≤ length (now (out .entry)))) ⌝ }
 {
     let mut i = at;
     let mut n = 0;
