@@ -88,6 +88,12 @@ bool zib_is_key(const uint8_t *key, size_t key_len);
 /* Which of the eight keys of mp3gain it is, in any letter case: its place, or 8 for none of them. */
 size_t zib_which_key(const uint8_t *key, size_t key_len);
 
+/* The item that begins at this place of the area: `there` is 1, with where its key and its value start and end, or all five are 0
+ * at the end of the area. The next item begins where the value ends. Refusal 12. */
+uint32_t zib_item_at(
+    const uint8_t *area, size_t area_len, size_t at, uint32_t *there, size_t *key_start, size_t *key_end, size_t *value_start,
+    size_t *value_end);
+
 /* The value of the first item with this key, as a part of the area: `there` is 1, with the value's start and size, or all three
  * are 0 where no item has the key. Refusals 12 and 3. */
 uint32_t zib_get(

@@ -81,6 +81,11 @@ static void items(void)
     int32_t steps = 7;
     CHECK(zib_is_key(TEXT("AB")) && !zib_is_key(TEXT("A")) && !zib_is_key(TEXT("tag")));
     CHECK(zib_which_key(TEXT("mp3gain_undo")) == 0 && zib_which_key(TEXT("AB")) == 8);
+    size_t key_start, key_end;
+    CHECK(zib_item_at(TEXT(AREA), 0, &there, &key_start, &key_end, &start, &size) == 0 && there == 1);
+    CHECK(key_start == 8 && key_end == 10 && start == 11 && size == 12);
+    CHECK(zib_item_at(TEXT(AREA), 12, &there, &key_start, &key_end, &start, &size) == 0 && there == 0 && key_end == 0);
+    CHECK(zib_item_at(TEXT(AREA), 1, &there, &key_start, &key_end, &start, &size) == ZIB_MALFORMED_AREA);
     CHECK(zib_get(TEXT(AREA), 1, TEXT("ab"), &there, &start, &size) == 0 && there == 1 && start == 11 && size == 1);
     CHECK(zib_get(TEXT(AREA), 2, TEXT("ab"), &there, &start, &size) == ZIB_MALFORMED_AREA);
     CHECK(zib_set(NONE, 0, TEXT("ab"), TEXT("c"), a, sizeof a, &count, &n) == 0 && count == 1 && IS(a, n, AREA));

@@ -186,7 +186,7 @@ impl Items {
 
     /// The keys and values, in order.
     pub fn iter(&self) -> Iter<'_> {
-        Iter { rest: &self.bytes }
+        Iter { area: &self.bytes, at: 0 }
     }
 
     /// An edit that makes at most `more` bytes more than there are.
@@ -299,19 +299,24 @@ impl Items {
 
 /// The items of an [`Items`], each a key and a value.
 pub struct Iter<'a> {
-    rest: &'a [u8],
+    area: &'a [u8],
+    at: usize,
 }
 
 impl<'a> Iterator for Iter<'a> {
     type Item = (&'a [u8], &'a [u8]);
 
     fn next(&mut self) -> Option<Self::Item> {
-        let (head, text) = self.rest.split_first_chunk::<8>()?;
-        let size = u32::from_le_bytes([head[0], head[1], head[2], head[3]]) as usize;
-        let end = text.iter().position(|&b| b == 0)?;
-        let (value, rest) = text[end + 1..].split_at(size);
-        self.rest = rest;
-        Some((&text[..end], value))
+        let a = self.area;
+        let (mut there, mut key, mut key_end, mut value, mut value_end) = (0, 0, 0, 0, 0);
+        // SAFETY: the pointer is that of a slice with the length beside it.
+        let reply = unsafe {
+            raw::zib_item_at(a.as_ptr(), a.len(), self.at, &mut there, &mut key, &mut key_end, &mut value, &mut value_end)
+        };
+        (reply == 0 && there == 1).then(|| {
+            self.at = value_end;
+            (&a[key..key_end], &a[value..value_end])
+        })
     }
 }
 

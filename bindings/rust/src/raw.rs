@@ -24,6 +24,11 @@ extern "C" {
     pub fn zib_is_key(key: *const u8, key_len: usize) -> bool;
     pub fn zib_which_key(key: *const u8, key_len: usize) -> usize;
     #[rustfmt::skip]
+    pub fn zib_item_at(
+        area: *const u8, area_len: usize, at: usize, there: *mut u32, key_start: *mut usize, key_end: *mut usize,
+        value_start: *mut usize, value_end: *mut usize,
+    ) -> u32;
+    #[rustfmt::skip]
     pub fn zib_get(
         area: *const u8, area_len: usize, count: usize, key: *const u8, key_len: usize, there: *mut u32, start: *mut usize,
         size: *mut usize,

@@ -2,8 +2,11 @@
 use Prim.Native.Nat.{ℕ}
 use lib.IntN.{ℤ, pos}
 use Rattle.replies.specs.Refusal.{numberOf}
+use Rattle.replies.specs.declared.Refusal.the-variants.{MalformedArea}
 use Rattle.keys.specs.declared.Which.{Which}
 use Rattle.keys.specs.declared.Which.the-variants.{Key, Other}
+use Rattle.items.specs.declared.Stepped.{Stepped}
+use Rattle.items.specs.declared.Stepped.the-variants.{Item, End, Malformed}
 use Rattle.items.specs.declared.Found.{Found}
 use Rattle.items.specs.declared.Found.the-variants.{Value, Nothing, Refused as NotFound}
 use Rattle.area_edit.specs.declared.Edited.{Edited}
@@ -15,6 +18,20 @@ use Rattle.area_values.specs.declared.UndoGain.the-variants.{Steps, Nothing as 
 abbrev pub placeFace : Which → ℕ
 placeFace (Key i) = i
 placeFace Other = 8
+
+-- a step: the reply, whether an item is there, and where its key and its value start and end
+pub record ItemFace : Type 0 where
+  pub reply : ℕ
+  pub there : ℕ
+  pub keyStart : ℕ
+  pub keyEnd : ℕ
+  pub valueStart : ℕ
+  pub valueEnd : ℕ
+
+abbrev pub itemFace : Stepped → ℕ → ℕ → ℕ → ℕ → ℕ → ItemFace
+itemFace (Item flags a b c d) there ks ke vs ve = record { reply = 0; there = 1; keyStart = a; keyEnd = b; valueStart = c; valueEnd = d }
+itemFace End there ks ke vs ve = record { reply = 0; there = 0; keyStart = 0; keyEnd = 0; valueStart = 0; valueEnd = 0 }
+itemFace Malformed there ks ke vs ve = record { reply = numberOf MalformedArea; there = there; keyStart = ks; keyEnd = ke; valueStart = vs; valueEnd = ve }
 
 -- get: the reply, whether a value is there, where it starts, and how long it is
 pub record FoundFace : Type 0 where

@@ -8,15 +8,17 @@ ghost use Rattle.lists.specs.Write.{over};
 ghost use Rattle.keys.specs.Keys.{undoKey, minmaxKey, isKey, whichKey, whichIs, isMp3gainKey, isUndone, isReplayGain};
 ghost use Rattle.values.specs.Undo.{formatUndo};
 ghost use Rattle.values.specs.Range.{formatRange};
-ghost use Rattle.items.specs.Answers.{findOf};
+ghost use Rattle.items.specs.Answers.{stepOf, findOf};
 ghost use Rattle.area_edit.specs.Edits.{answer, bytes, setPlan, removePlan, dropPlan};
 ghost use Rattle.area_values.specs.Undo.{undoGainOf};
 ghost use Rattle.area_gains.specs.Gains.{setGainsPlan};
-ghost use Rattle.c_items.specs.ItemsFace.{placeFace, foundFace, gainFace, editedFace};
+ghost use Rattle.c_items.specs.ItemsFace.{placeFace, itemFace, foundFace, gainFace, editedFace};
 use area_edit::Edited;
 use area_values::UndoGain;
 use items::Found;
+use items::Stepped;
 use keys::Which;
+use replies::Refusal;
 
 // Whether refusal 3 lets the key pass.
 #[no_mangle]
@@ -35,6 +37,50 @@ pub extern "C" fn zib_which_key(key: &[u8]) -> usize
     match w {
         Which::Key(i) => i,
         Which::Other => 8,
+    }
+}
+
+// The item that begins at this place of the area: `there` is 1, with where its key and its value start and end, or all five are 0 at the
+// end of the area. The next item begins where the value ends. Refusal 12.
+#[no_mangle]
+pub extern "C" fn zib_item_at(
+    area: &[u8],
+    at: usize,
+    there: &mut u32,
+    key_start: &mut usize,
+    key_end: &mut usize,
+    value_start: &mut usize,
+    value_end: &mut usize,
+) -> u32
+    ensures { λ r. ⌜ (let face = itemFace (stepOf (now (area .entry)) at) (now (there .entry)) (now («key_start» .entry)) (now («key_end» .entry)) (now («value_start» .entry)) (now («value_end» .entry)) in
+        (r ≡ face .reply) × (now (there .exit) ≡ face .there) × (now («key_start» .exit) ≡ face .keyStart) × (now («key_end» .exit) ≡ face .keyEnd)
+        × (now («value_start» .exit) ≡ face .valueStart) × (now («value_end» .exit) ≡ face .valueEnd)) ⌝ }
+{
+    let s = items::step(area, at);
+    match s {
+        Stepped::Item {
+            flags: _,
+            key_start: a,
+            key_end: b,
+            value_start: c,
+            value_end: d,
+        } => {
+            *there = 1;
+            *key_start = a;
+            *key_end = b;
+            *value_start = c;
+            *value_end = d;
+            0
+        }
+        Stepped::End => {
+            *there = 0;
+            *key_start = 0;
+            *key_end = 0;
+            *value_start = 0;
+            *value_end = 0;
+            0
+        }
+        Stepped::Malformed => replies::number(Refusal::MalformedArea),
     }
 }
 

@@ -15,6 +15,11 @@ mod library {
     extern "C" {
         fn zib_is_key(key: *const u8, length: usize) -> bool;
         fn zib_which_key(key: *const u8, length: usize) -> usize;
+        #[rustfmt::skip]
+        fn zib_item_at(
+            area: *const u8, length: usize, at: usize, there: *mut u32, key_start: *mut usize, key_end: *mut usize,
+            value_start: *mut usize, value_end: *mut usize,
+        ) -> u32;
         fn zib_get(
             area: *const u8,
             length: usize,
@@ -130,6 +135,18 @@ mod library {
     pub fn which_key(key: &[u8]) -> Option<usize> {
         let place = unsafe { zib_which_key(key.as_ptr(), key.len()) };
         (place < 8).then_some(place)
+    }
+
+    /// Where the key and the value of an item start and end.
+    pub fn item_at(area: &[u8], at: usize) -> Result<Option<[usize; 4]>, u32> {
+        let (mut there, [mut a, mut b, mut c, mut d]) = (7, [7; 4]);
+        let reply = unsafe { zib_item_at(area.as_ptr(), area.len(), at, &mut there, &mut a, &mut b, &mut c, &mut d) };
+        match (reply, there, [a, b, c, d]) {
+            (0, 0, [0, 0, 0, 0]) => Ok(None),
+            (0, 1, places) => Ok(Some(places)),
+            (r, 7, [7, 7, 7, 7]) if r != 0 => Err(r),
+            other => panic!("zib_item_at answers {other:?}"),
+        }
     }
 
     /// The value as a part of the area.
@@ -567,9 +584,50 @@ fn small_areas() -> Vec<(Vec<u8>, usize)> {
     tags.iter().map(|tag| (area_of(tag), tag.len())).collect()
 }
 
+/// The item at a place, by document 01's rule for an area.
+fn item_at(area: &[u8], at: usize) -> Result<Option<[usize; 4]>, u32> {
+    let Some(rest) = area.get(at..).filter(|rest| !rest.is_empty()) else { return Ok(None) };
+    let number = |i: usize| rest.get(i..i + 4).map(|b| u32::from_le_bytes(b.try_into().unwrap()));
+    let read = || {
+        let (size, flags) = (number(0)? as usize, number(4)?);
+        let key_end = at + 8 + rest[8..].iter().position(|&b| b == 0)?;
+        let end = key_end + 1 + size;
+        (flags == 0 && end <= area.len()).then_some([at + 8, key_end, key_end + 1, end])
+    };
+    read().map(Some).ok_or(12)
+}
+
+/// The items of an area one after another, and what stands at a place between.
+fn walk(c: &mut Compare, area: &[u8]) {
+    let mut at = 0;
+    loop {
+        c.bytes("item_at", area, |a| item_at(a, at), |a| library::item_at(a, at));
+        let between = c.rng.below(area.len() + 2);
+        c.bytes("item_at", area, |a| item_at(a, between), |a| library::item_at(a, between));
+        match item_at(area, at) {
+            Ok(Some([.., end])) => at = end,
+            _ => return,
+        }
+    }
+}
+
 fn compare(c: &mut Compare) {
     keys(c);
     let ops = each_op();
+    for (area, _) in small_areas() {
+        for n in 0..=area.len() {
+            for at in 0..n + 2 {
+                c.bytes("item_at", &area[..n], |a| item_at(a, at), |a| library::item_at(a, at));
+            }
+        }
+        for at in 0..area.len() {
+            for value in 0..=255 {
+                let mut other = area.clone();
+                other[at] = value;
+                walk(c, &other);
+            }
+        }
+    }
     // Small areas with right and wrong counts; every truncation; every change of one byte.
     for (area, count) in small_areas() {
         for n in [0, 1, 2, 3, 4, 1 << 32, usize::MAX] {
@@ -621,6 +679,7 @@ fn compare(c: &mut Compare) {
             area[at] = c.rng.next() as u8;
         }
         both(c, &area, count, &op);
+        walk(c, &area);
         let n = c.rng.below(area.len() + 1);
         both(c, &area[..n], count, &op);
     }
