@@ -15,10 +15,15 @@ mod library {
     extern "C" {
         fn zib_is_key(key: *const u8, length: usize) -> bool;
         fn zib_which_key(key: *const u8, length: usize) -> usize;
-        #[rustfmt::skip]
         fn zib_item_at(
-            area: *const u8, length: usize, at: usize, there: *mut u32, key_start: *mut usize, key_end: *mut usize,
-            value_start: *mut usize, value_end: *mut usize,
+            area: *const u8,
+            length: usize,
+            at: usize,
+            there: *mut u32,
+            key_start: *mut usize,
+            key_end: *mut usize,
+            value_start: *mut usize,
+            value_end: *mut usize,
         ) -> u32;
         fn zib_get(
             area: *const u8,
