@@ -14,7 +14,10 @@ fn main() {
     for module in MODULES {
         let archive = folder.join(format!("libc_{module}.a"));
         if !archive.is_file() {
-            panic!("{} is not there: run ./archives in the repository, or name its folder in ZIBRUNNOS_ARCHIVES", archive.display());
+            panic!(
+                "{} is not there: run ./archives in the repository, or name its folder in ZIBRUNNOS_ARCHIVES",
+                archive.display()
+            );
         }
         println!("cargo:rerun-if-changed={}", archive.display());
         println!("cargo:rustc-link-lib=static=c_{module}");

@@ -46,7 +46,15 @@ impl Frame {
         };
         let len = if mpeg1 { 144 } else { 72 } * bits / hertz + pad;
         let side = at + 4 + if crc { 2 } else { 0 };
-        (side + side_len <= at + len && at + len <= file.len()).then_some(Frame { at, len, side, side_len, crc, mpeg1, channels })
+        (side + side_len <= at + len && at + len <= file.len()).then_some(Frame {
+            at,
+            len,
+            side,
+            side_len,
+            crc,
+            mpeg1,
+            channels,
+        })
     }
 
     /// Whether it holds an encoder's table in place of sound.
@@ -97,7 +105,9 @@ fn put(side: &mut [u8], bit: usize, gain: u8) {
 fn frames(file: &[u8]) -> Vec<Frame> {
     let mut at = 0;
     if file.len() > 10 && file.starts_with(b"ID3") {
-        at = 10 + file[6..10].iter().fold(0, |n, &b| n << 7 | b as usize & 0x7F) + if file[5] & 0x10 != 0 { 10 } else { 0 };
+        at = 10
+            + file[6..10].iter().fold(0, |n, &b| n << 7 | b as usize & 0x7F)
+            + if file[5] & 0x10 != 0 { 10 } else { 0 };
     }
     let mut all = Vec::new();
     while let Some(frame) = Frame::at(file, at) {
@@ -126,7 +136,10 @@ fn put_gains(file: &mut [u8], frames: &[Frame], channel: usize, gains: &[u8]) {
 }
 
 /// A file with its gains and its tag changed by one call. The sound stands at the front of both files.
-fn changed(file: &[u8], call: impl FnOnce(&[u8], &mut [u8], &mut [u8]) -> zibrunnos::Result<Levelled>) -> Result<Levelled, String> {
+fn changed(
+    file: &[u8],
+    call: impl FnOnce(&[u8], &mut [u8], &mut [u8]) -> zibrunnos::Result<Levelled>,
+) -> Result<Levelled, String> {
     let frames = frames(file);
     let (mut left, mut right) = (gains(file, &frames, 0), gains(file, &frames, 1));
     let mut new = call(file, &mut left, &mut right).map_err(|r| format!("{r} (refusal {})", r.number()))?;

@@ -62,8 +62,19 @@ impl Refusal {
     fn of(number: u32) -> Refusal {
         use Refusal::*;
         let all = [
-            FileTooLong, StepOutOfRange, BadKey, NotUtf8, NoRoom, TagTooLarge, NoLeftGains, NotEditable, FlagDiffers, NoUndo,
-            UndoOutOfRange, MalformedArea, MalformedSlip,
+            FileTooLong,
+            StepOutOfRange,
+            BadKey,
+            NotUtf8,
+            NoRoom,
+            TagTooLarge,
+            NoLeftGains,
+            NotEditable,
+            FlagDiffers,
+            NoUndo,
+            UndoOutOfRange,
+            MalformedArea,
+            MalformedSlip,
         ];
         all[number as usize - 1]
     }
@@ -190,7 +201,11 @@ impl Items {
     }
 
     /// An edit that makes at most `more` bytes more than there are.
-    fn edit(&mut self, more: usize, call: impl FnOnce(*const u8, usize, usize, *mut u8, usize, &mut usize, &mut usize) -> u32) -> Result<()> {
+    fn edit(
+        &mut self,
+        more: usize,
+        call: impl FnOnce(*const u8, usize, usize, *mut u8, usize, &mut usize, &mut usize) -> u32,
+    ) -> Result<()> {
         let mut count = 0;
         let (from, len, items) = (self.bytes.as_ptr(), self.bytes.len(), self.count);
         self.bytes = filled(len + more, |out, room, written| call(from, len, items, out, room, &mut count, written))?;
@@ -229,7 +244,9 @@ impl Items {
     pub fn undo_gain(&self) -> Result<Option<i32>> {
         let (mut there, mut steps) = (0, 0);
         // SAFETY: as in `get`.
-        let reply = unsafe { raw::zib_get_undo_gain(self.bytes.as_ptr(), self.bytes.len(), self.count, &mut there, &mut steps) };
+        let reply = unsafe {
+            raw::zib_get_undo_gain(self.bytes.as_ptr(), self.bytes.len(), self.count, &mut there, &mut steps)
+        };
         done(reply, (there == 1).then_some(steps))
     }
 
@@ -251,13 +268,28 @@ impl Items {
 
     /// Sets the ReplayGain items whose texts are not empty.
     pub fn set_replaygain(&mut self, g: ReplayGain) -> Result<()> {
-        let more: usize = [g.track_gain, g.track_peak, g.album_gain, g.album_peak, g.algorithm].iter().map(|t| t.len() + 40).sum();
+        let more: usize =
+            [g.track_gain, g.track_peak, g.album_gain, g.album_peak, g.algorithm].iter().map(|t| t.len() + 40).sum();
         // SAFETY: as in `set`.
         self.edit(more, |a, l, n, out, room, items, written| unsafe {
             raw::zib_set_replaygain(
-                a, l, n, g.track_gain.as_ptr(), g.track_gain.len(), g.track_peak.as_ptr(), g.track_peak.len(),
-                g.album_gain.as_ptr(), g.album_gain.len(), g.album_peak.as_ptr(), g.album_peak.len(), g.algorithm.as_ptr(),
-                g.algorithm.len(), out, room, items, written,
+                a,
+                l,
+                n,
+                g.track_gain.as_ptr(),
+                g.track_gain.len(),
+                g.track_peak.as_ptr(),
+                g.track_peak.len(),
+                g.album_gain.as_ptr(),
+                g.album_gain.len(),
+                g.album_peak.as_ptr(),
+                g.album_peak.len(),
+                g.algorithm.as_ptr(),
+                g.algorithm.len(),
+                out,
+                room,
+                items,
+                written,
             )
         })
     }
@@ -265,19 +297,25 @@ impl Items {
     /// Removes the ReplayGain items.
     pub fn remove_replaygain(&mut self) -> Result<()> {
         // SAFETY: as in `set`.
-        self.edit(0, |a, l, n, out, room, items, written| unsafe { raw::zib_remove_replaygain(a, l, n, out, room, items, written) })
+        self.edit(0, |a, l, n, out, room, items, written| unsafe {
+            raw::zib_remove_replaygain(a, l, n, out, room, items, written)
+        })
     }
 
     /// Removes what has no meaning any more after an undo.
     pub fn drop_undone(&mut self) -> Result<()> {
         // SAFETY: as in `set`.
-        self.edit(0, |a, l, n, out, room, items, written| unsafe { raw::zib_drop_undone(a, l, n, out, room, items, written) })
+        self.edit(0, |a, l, n, out, room, items, written| unsafe {
+            raw::zib_drop_undone(a, l, n, out, room, items, written)
+        })
     }
 
     /// Removes mp3gain's eight keys.
     pub fn take_mp3gain(&mut self) -> Result<()> {
         // SAFETY: as in `set`.
-        self.edit(0, |a, l, n, out, room, items, written| unsafe { raw::zib_take_mp3gain(a, l, n, out, room, items, written) })
+        self.edit(0, |a, l, n, out, room, items, written| unsafe {
+            raw::zib_take_mp3gain(a, l, n, out, room, items, written)
+        })
     }
 
     /// Moves the stored ranges and gain texts by so many steps.
@@ -311,7 +349,16 @@ impl<'a> Iterator for Iter<'a> {
         let (mut there, mut key, mut key_end, mut value, mut value_end) = (0, 0, 0, 0, 0);
         // SAFETY: the pointer is that of a slice with the length beside it.
         let reply = unsafe {
-            raw::zib_item_at(a.as_ptr(), a.len(), self.at, &mut there, &mut key, &mut key_end, &mut value, &mut value_end)
+            raw::zib_item_at(
+                a.as_ptr(),
+                a.len(),
+                self.at,
+                &mut there,
+                &mut key,
+                &mut key_end,
+                &mut value,
+                &mut value_end,
+            )
         };
         (reply == 0 && there == 1).then(|| {
             self.at = value_end;
@@ -360,7 +407,17 @@ pub fn replace_tag(file: &[u8], items: &Items) -> Result<Vec<u8>> {
 pub fn set_item(file: &[u8], key: &[u8], value: &[u8]) -> Result<Vec<u8>> {
     // SAFETY: as in `read_tag`.
     filled(file.len() + key.len() + value.len() + 128, |out, room, written| unsafe {
-        raw::zib_set_ape_item(file.as_ptr(), file.len(), key.as_ptr(), key.len(), value.as_ptr(), value.len(), out, room, written)
+        raw::zib_set_ape_item(
+            file.as_ptr(),
+            file.len(),
+            key.as_ptr(),
+            key.len(),
+            value.as_ptr(),
+            value.len(),
+            out,
+            room,
+            written,
+        )
     })
 }
 
@@ -380,15 +437,33 @@ pub struct Levelled {
 }
 
 /// Moves every gain by its side's steps, and gives the file with the items that say so.
-pub fn level(file: &[u8], left: &mut [u8], right: &mut [u8], left_steps: i32, right_steps: i32, mode: Mode) -> Result<Levelled> {
+pub fn level(
+    file: &[u8],
+    left: &mut [u8],
+    right: &mut [u8],
+    left_steps: i32,
+    right_steps: i32,
+    mode: Mode,
+) -> Result<Levelled> {
     let mut peaks = 0;
     // A tag of at most 256 items, each of which may grow by 32 bytes, and two items more.
     let room = file.len() + 128 + 256 * 32 + 128;
     // SAFETY: as in `read_tag`; both lists of gains are borrowed alone.
     let file = filled(room, |out, room, written| unsafe {
         raw::zib_level(
-            file.as_ptr(), file.len(), left.as_mut_ptr(), left.len(), right.as_mut_ptr(), right.len(), left_steps, right_steps,
-            mode.wraps(), out, room, written, &mut peaks,
+            file.as_ptr(),
+            file.len(),
+            left.as_mut_ptr(),
+            left.len(),
+            right.as_mut_ptr(),
+            right.len(),
+            left_steps,
+            right_steps,
+            mode.wraps(),
+            out,
+            room,
+            written,
+            &mut peaks,
         )
     })?;
     Ok(Levelled { file, peaks })
@@ -400,7 +475,16 @@ pub fn undo(file: &[u8], left: &mut [u8], right: &mut [u8]) -> Result<Levelled> 
     // SAFETY: as in `level`.
     let file = filled(file.len() + 128, |out, room, written| unsafe {
         raw::zib_undo(
-            file.as_ptr(), file.len(), left.as_mut_ptr(), left.len(), right.as_mut_ptr(), right.len(), out, room, written, &mut peaks,
+            file.as_ptr(),
+            file.len(),
+            left.as_mut_ptr(),
+            left.len(),
+            right.as_mut_ptr(),
+            right.len(),
+            out,
+            room,
+            written,
+            &mut peaks,
         )
     })?;
     Ok(Levelled { file, peaks })
@@ -459,7 +543,9 @@ pub fn is_utf8(text: &[u8]) -> bool {
 /// A text with U+FFFD in place of each ill-formed part.
 pub fn lossy(text: &[u8]) -> Result<Vec<u8>> {
     // SAFETY: as in `read_tag`.
-    filled(3 * text.len(), |out, room, written| unsafe { raw::zib_lossy_into(text.as_ptr(), text.len(), out, room, written) })
+    filled(3 * text.len(), |out, room, written| unsafe {
+        raw::zib_lossy_into(text.as_ptr(), text.len(), out, room, written)
+    })
 }
 
 /// Whether a tag may have this key.
@@ -526,7 +612,17 @@ pub fn shift_stored_value(key: &[u8], value: &[u8], steps: i32) -> Option<String
     let mut moved = 0;
     // SAFETY: as in `read_tag`; no such text has more than 32 bytes.
     let text = filled(32, |out, room, written| unsafe {
-        raw::zib_shift_stored_value(key.as_ptr(), key.len(), value.as_ptr(), value.len(), steps, &mut moved, out, room, written)
+        raw::zib_shift_stored_value(
+            key.as_ptr(),
+            key.len(),
+            value.as_ptr(),
+            value.len(),
+            steps,
+            &mut moved,
+            out,
+            room,
+            written,
+        )
     });
     (moved == 1).then(|| String::from_utf8_lossy(&text.unwrap()).into_owned())
 }
@@ -565,7 +661,9 @@ mod tests {
         items.set(b"AB", b"c").unwrap();
         items.set_undo_gain(Steps { left: 3, right: -12, mode: Mode::Saturating }).unwrap();
         items.set_minmax(94, 168).unwrap();
-        items.set_replaygain(ReplayGain { track_gain: b"-3.500000 dB", album_peak: b"0.9", ..Default::default() }).unwrap();
+        items
+            .set_replaygain(ReplayGain { track_gain: b"-3.500000 dB", album_peak: b"0.9", ..Default::default() })
+            .unwrap();
         assert_eq!(items.len(), 5);
         assert_eq!(items.undo_gain(), Ok(Some(3)));
         let file = replace_tag(b"audio", &items).unwrap();
