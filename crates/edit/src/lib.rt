@@ -121,7 +121,7 @@ pub fn scratch() -> [u8; 66048]
     [0u8; 66048]
 }
 
-// Room for the items of a small tag, as most are: it costs less to clear.
+// Room for the items of a small tag: it costs less to clear.
 pub fn small_scratch() -> [u8; 4096]
     ensures { λ r. ⌜ 4096 ≡ length r ⌝ }
 {
