@@ -1,11 +1,15 @@
 use borrow.Author.Needs.{needs}
+use lib.ListN.{length}
+use Rattle.area_edit.specs.Edits.{setPlan}
+use Rattle.c_items.proofs.Face.{face-of}
 use Rattle.c_items.proofs.zib_set.Statement.{statement}
 use Rattle.c_items.proofs.zib_set.Tie as tie
 
 returns : tie.Need-returns
 returns c =
     let w = c .before .before .before .before .before in
-    rw (← w .set .ensures .0) (c .edited .ensures .0, c .edited .ensures .1, c .edited .ensures .2, w .set .ensures .1)
+    let g = w .before .before .before .before .before .before .args in
+    face-of (setPlan (g .key .now) (g .value .now) (g .count) (g .area .now) (length (g .out .now))) (g .items .now) (g .written .now) (g .out .now) (w .set .ensures) (c .edited .ensures)
 
 pub zib-set-spec : {M : Type 1} → statement M
 zib-set-spec = tie.close (tie.spec (λ c κs. search needs) (λ c κs. search needs) (λ c. search needs) returns)
