@@ -30,7 +30,8 @@ changed-item s f b t value a k e start key-end =
     let m = u32le 0 ++ (t .key ++ (0 ∷ [])) in
     let r : s ≡ (f ++ n) ++ (m ++ (t .value ++ b)) = e ∙ simp append-assoc in
     let p : part (a + 4) (k + 1) s ≡ m = ap (part (a + 4) (k + 1)) r ∙ part-is (f ++ n) m _ (a + 4) (k + 1) (simp length-append (omega arith)) (simp length-append (omega arith)) in
-    rw p (simp append-assoc)
+    let q : (u32le (length value) ++ part (a + 4) (k + 1) s) ++ value ≡ itemBytes (record { key = t .key; value = value }) = rw p (simp append-assoc) in
+    q
 
 pub fresh-item : (key value : List ℕ) → fresh key value ≡ itemBytes (record { key = upperAll key; value = value })
 unfolding fresh itemBytes

@@ -18,7 +18,7 @@ use Rattle.lists.specs.Write.{over, part}
 use Rattle.lists.proofs.Places.{part-is, length-part}
 use Rattle.lists.proofs.Wrote.{Wrote, start, from-start}
 use Rattle.replies.specs.Limits.{fileLimit}
-use Rattle.replies.specs.Refusal.{no, yes}
+use Rattle.replies.specs.Refusal.{need, no, yes}
 use Rattle.replies.specs.declared.Refusal.the-variants.{MalformedArea, StepOutOfRange, NoRoom}
 use Rattle.frame.specs.declared.GainMode.{GainMode}
 use Rattle.frame.specs.declared.GainMode.the-variants.{Saturating, Wrapping}
@@ -309,9 +309,13 @@ module _ (m : GainMode) (steps : ℤ) (n : ℕ) (s : List ℕ) (room : ℕ) wher
 
     pub shift-5 : isStep steps ≡ true → fits room (shiftStoredGain m steps (itemsIn n s)) ≡ false → shiftPlan m steps n s room ≡ no NoRoom
     unfolding edited
-    shift-5 t r = rw (a, t, r)
+    shift-5 t r =
+        let q : edited (need StepOutOfRange (isStep steps) ∷ []) (shiftStoredGain m steps) n s room ≡ no NoRoom = rw (a, t, r) in
+        q
 
     pub shift-yes : isStep steps ≡ true → fits room (shiftStoredGain m steps (itemsIn n s)) ≡ true
         → shiftPlan m steps n s room ≡ yes (shiftStoredGain m steps (itemsIn n s))
     unfolding edited
-    shift-yes t r = rw (a, t, r)
+    shift-yes t r =
+        let q : edited (need StepOutOfRange (isStep steps) ∷ []) (shiftStoredGain m steps) n s room ≡ yes (shiftStoredGain m steps (itemsIn n s)) = rw (a, t, r) in
+        q

@@ -83,8 +83,7 @@ pub extern "C" fn zib_undo(
         × (now (out .exit) ≡ over (levelBytes plan) (now (out .entry))) × (now (left .exit) ≡ leftAfter plan (now (left .entry)))
         × (now (right .exit) ≡ rightAfter plan (now (right .entry)))) ⌝ }
 {
-    let w = undo::undo(file, left, right, out);
-    put_answer(w, written, peaks)
+    put_answer(undo::undo(file, left, right, out), written, peaks)
 }
 
 // The area after so many steps, under W if `wrap`: written to the front of `out`, how many items it has into `items`, and its length into

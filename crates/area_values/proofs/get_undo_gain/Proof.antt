@@ -23,8 +23,11 @@ returns c =
     let s = b .before .args .area .now in
     let fits : SFits w32 (p .parse-undo-values .result .left) = search needs in
     let e : p .parse-undo-values .result ≡ parseUndo (valueOf s (f .find .result)) = p .parse-undo-values .ensures ∙ ap parseUndo (v .value .ensures) in
-    rw (toZ-ofZ fits)
-    (ap (λ u. Steps (u .left)) e ∙ from-value s (f .find .result) _ _ (k .enum-told .given .1) ∙ ap (gainFrom s) (f .find .ensures) ∙ undo-is s (b .before .args .count) (λ i. omega (arith, b .shared-slice-known .given i)))
+    ap Steps (toZ-ofZ fits)
+    ∙ ap (λ u. Steps (u .left)) e
+    ∙ from-value s (f .find .result) _ _ (k .enum-told .given .1)
+    ∙ ap (gainFrom s) (f .find .ensures)
+    ∙ undo-is s (b .before .args .count) (λ i. omega (arith, b .shared-slice-known .given i))
 
 returns-2 : tie.Need-returns-2
 unfolding undoKey

@@ -1,11 +1,15 @@
 use mathlib.Core.Path.{refl, sym, _∙_}
+use Prim.Native.Nat.{_<_}
 use borrow.Author.Needs.{needs}
 use borrow.Author.Tests.{le-leb, lt-leb}
+use lib.ListN.{length}
 use Rattle.c_frame.proofs.zib_ape_tag_start.Statement.{statement}
 use Rattle.c_frame.proofs.zib_ape_tag_start.Tie as tie
 
 returns : tie.Need-returns
-returns c = rw (lt-leb _ _ (c .if1 .taken)) (refl, refl, refl)
+returns c =
+    let long : 16777216 < length (c .before .before .args .file .now) = c .if1 .taken in
+    rw (lt-leb _ _ long) (refl, refl, refl)
 
 returns-2 : tie.Need-returns-2
 returns-2 c =

@@ -1,20 +1,20 @@
-use mathlib.Core.Path.{_≡_, refl}
 use mir.Facts.{toZ-ofZ}
 use borrow.Author.Needs.{needs}
 use lib.ListN.{length}
-use Rattle.lists.specs.Write.{over}
-use Rattle.frame.specs.Gain.{modeOf}
 use Rattle.calls.specs.Calls.{levelPlan}
-use Rattle.level.specs.Answers.{levelAnswer, levelBytes, leftAfter, rightAfter}
+use Rattle.c_level.proofs.Face.{face-of}
 use Rattle.c_level.proofs.zib_level.Statement.{statement}
 use Rattle.c_level.proofs.zib_level.Tie as tie
 
 returns : tie.Need-returns
 returns c =
-    let b = c .before .before .before .before .before .before .before .before .before .before .before .before .before .before .before .before .before .before in
-    let u = rw (toZ-ofZ (b .fits .left-steps), toZ-ofZ (b .fits .right-steps), c .before .before .before .before .before .before .before .before .before .before .before .before .before .from-wrap .ensures) at (c .before .before .before .before .before .before .before .before .before .level .ensures) in
-    let a = c .put-answer .ensures in
-    rw (← u .0) (a .0, a .1, a .2, u .1, u .2, u .3)
+    let l = c .before .before .before .before .before .before .before .before .before in
+    let m = l .before .before .before .before in
+    let b = m .before .before .before .before .before in
+    let g = b .args in
+    let u = rw (toZ-ofZ (b .fits .left-steps), toZ-ofZ (b .fits .right-steps)) at (l .level .ensures) in
+    rw (← m .from-wrap .ensures)
+    (face-of (levelPlan (g .file .now) (g .left .now) (g .right .now) (record { left = g .left-steps; right = g .right-steps; mode = m .from-wrap .result }) (length (g .out .now))) (g .written .now) (g .peaks .now) (g .out .now) (g .left .now) (g .right .now) u (c .put-answer .ensures))
 
 pub zib-level-spec : {M : Type 1} → statement M
 zib-level-spec =

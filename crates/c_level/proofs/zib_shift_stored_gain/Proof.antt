@@ -15,7 +15,7 @@ shifted : (c : tie.After-shift-stored-gain) → let g = c .before .before .befor
     (c .shift-stored-gain .result ≡ answer p) × (c .shift-stored-gain .last .1 .1 .1 .1 .0 ≡ over (bytes p) (g .out .now))
 shifted c =
     let f = c .before .before in
-    rw (toZ-ofZ (f .before .before .before .fits .steps), f .from-wrap .ensures) at (c .shift-stored-gain .ensures)
+    rw (← f .from-wrap .ensures) (rw (toZ-ofZ (f .before .before .before .fits .steps)) at (c .shift-stored-gain .ensures))
 
 returns : tie.Need-returns
 returns c =

@@ -1,13 +1,15 @@
-use mathlib.Core.Path.{refl}
 use borrow.Author.Needs.{needs}
+use lib.ListN.{length}
+use Rattle.calls.specs.Calls.{undoPlan}
+use Rattle.c_level.proofs.Face.{face-of}
 use Rattle.c_level.proofs.zib_undo.Statement.{statement}
 use Rattle.c_level.proofs.zib_undo.Tie as tie
 
 returns : tie.Need-returns
 returns c =
-    let u = c .before .before .before .before .before .before .before .before .before .undo .ensures in
-    let a = c .put-answer .ensures in
-    rw (← u .0) (a .0, a .1, a .2, u .1, u .2, u .3)
+    let u = c .before .before .before .before .before .before .before .before .before in
+    let g = u .before .before .before .before .before .before .before .before .args in
+    face-of (undoPlan (g .file .now) (g .left .now) (g .right .now) (length (g .out .now))) (g .written .now) (g .peaks .now) (g .out .now) (g .left .now) (g .right .now) (u .undo .ensures) (c .put-answer .ensures)
 
 pub zib-undo-spec : {M : Type 1} → statement M
 zib-undo-spec =

@@ -6,7 +6,7 @@ use mir.Syntax.{w32}
 use mir.Val.{SFits}
 use mir.Facts.{toZ-ofZ}
 use borrow.Author.Needs.{needs}
-use lib.ListN.{length, set, length-set}
+use lib.ListN.{length, getD, set, length-set}
 use Rattle.frame.specs.Gain.{adjust}
 use Rattle.gains.proofs.Mapping.{mapped, mapped-more, mapped-at, mapped-all}
 use Rattle.gains.proofs.adjust_gains.Statement.{statement}
@@ -23,7 +23,7 @@ loop-again c =
     let l = c .before .before .before in
     let g = c .before .before .before .before .before .args in
     let h : SFits w32 (g .steps .0) = search needs in
-    let e = c .adjust-gain-value .ensures in
+    let e : c .adjust-gain-value .result ≡ adjust (g .mode) (g .steps .0) (getD (l .loop .gains) (l .loop .i) 0) = c .adjust-gain-value .ensures in
     let at = mapped-at (adjust (g .mode) (g .steps .0)) (l .loop .i) (g .gains .now) (omega arith) in
     (omega arith, simp length-set (l .loop .inv .1), rw (e, l .loop .inv .2, at) (mapped-more (adjust (g .mode) (g .steps .0)) (l .loop .i) (g .gains .now) (omega arith)))
 

@@ -5,7 +5,7 @@ use Prim.Native.Nat.{ℕ, _≤_, _<_, _+_, _-_}
 use native.Mathlib.Omega.{arith}
 use native.Mathlib.Nat.{add-zero}
 use borrow.Author.Tests.{eq-eqb, ne-eqb}
-use lib.ListN.{length, drop, length-drop, drop-of-length-le}
+use lib.ListN.{length, drop, getD, length-drop, drop-of-length-le}
 use Rattle.lists.specs.Bytes.{startsWith}
 use Rattle.lists.proofs.Same.{starts-nil, starts-empty, starts-long, starts-step}
 use Rattle.lists.proofs.starts_with.Statement.{statement}
@@ -37,7 +37,7 @@ returns-3 : tie.Need-returns-3 Inv-loop μ-loop
 returns-3 c =
     let l = c .before .before .before .before in
     let g = l .before .before .before .args in
-    sym (l .loop .inv .2 ∙ rw (starts-step (g .text .now) (g .s .now) (g .at) (l .loop .i) (omega arith) (omega arith), ne-eqb _ _ (c .if3 .taken)))
+    sym (l .loop .inv .2 ∙ rw (starts-step (g .text .now) (g .s .now) (g .at) (l .loop .i) (omega arith) (omega arith), ne-eqb (getD (g .text .now) (l .loop .i) 0) (getD (g .s .now) (g .at + l .loop .i) 0) (c .if3 .taken)))
 
 loop-again : tie.Need-loop-again Inv-loop μ-loop
 loop-again c =
@@ -45,7 +45,7 @@ loop-again c =
     let g = l .before .before .before .args in (
       omega arith,
       omega arith,
-      l .loop .inv .2 ∙ rw (starts-step (g .text .now) (g .s .now) (g .at) (l .loop .i) (omega arith) (omega arith), eq-eqb _ _ (c .if3 .left)),
+      l .loop .inv .2 ∙ rw (starts-step (g .text .now) (g .s .now) (g .at) (l .loop .i) (omega arith) (omega arith), eq-eqb (getD (g .text .now) (l .loop .i) 0) (getD (g .s .now) (g .at + l .loop .i) 0) (c .if3 .left)),
     )
 
 returns-4 : tie.Need-returns-4 Inv-loop μ-loop

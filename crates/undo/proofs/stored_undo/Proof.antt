@@ -11,6 +11,7 @@ use borrow.Author.Needs.{needs}
 use borrow.Author.Tests.{not-true, not-false}
 use Rattle.keys.specs.Keys.{undoKey}
 use Rattle.keys.proofs.Keys.{undo-keys}
+use Rattle.values.specs.Undo.{parseUndo, undoWraps}
 use Rattle.items.specs.Items.{itemsIn}
 use Rattle.items.specs.Answers.{valueOf}
 use Rattle.items.proofs.Places.{got}
@@ -39,9 +40,12 @@ returns-2 : tie.Need-returns-2
 returns-2 c =
     let s = c .before .before .before .before .before .before .before .before .before .args .area .now in
     let f = c .before .before .before .before .before .before .find .result in
+    let text : List ℕ = valueOf s f in
+    let numbers : c .before .before .parse-undo-values .result ≡ parseUndo text = c .before .before .parse-undo-values .ensures ∙ ap parseUndo (c .before .before .before .value .ensures) in
+    let flag : c .before .parse-undo-wrap .result ≡ undoWraps text = c .before .parse-undo-wrap .ensures ∙ ap undoWraps (c .before .before .before .value .ensures) in
     let hl : SFits w32 (c .before .before .parse-undo-values .result .left) = search needs in
     let hr : SFits w32 (c .before .before .parse-undo-values .result .right) = search needs in
-    rw (← found (c .before .before .before .before .before .before), got-there s f (sym (c .before .before .before .before .before .is-there .ensures) ∙ not-false (c .before .before .before .before .before .is-there .result) (c .before .before .before .before .if1 .left)), ← c .before .before .before .value .ensures, ← c .before .before .parse-undo-values .ensures, ← c .before .parse-undo-wrap .ensures, toZ-ofZ hl, toZ-ofZ hr)
+    rw (← found (c .before .before .before .before .before .before), got-there s f (sym (c .before .before .before .before .before .is-there .ensures) ∙ not-false (c .before .before .before .before .before .is-there .result) (c .before .before .before .before .if1 .left)), ← numbers, ← flag, toZ-ofZ hl, toZ-ofZ hr)
 
 pub stored-undo-spec : {M : Type 1} → statement M
 stored-undo-spec =
