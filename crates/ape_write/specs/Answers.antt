@@ -74,11 +74,11 @@ cutOf s =
     started (tagStart s f) (audioCut s (length s)) (λ a.
     cond (ltb (f + 32) (length s)) (cut a (f + 32) (length s)) (audioCut s a)))
 
--- the same of a file that is not too long
+-- the split as a call: refusal 1
 abbrev pub splitPlan : List ℕ → Plan Cut
 splitPlan file = planned (refusalOf (lentFits file ∷ [])) (cutOf file)
 
--- the two parts that such a cut leaves are these
+-- a cut leaves these two parts
 pub record Cuts (x : Split) (s : List ℕ) (front from to : ℕ) : Type 0 where
   pub front-is : take front s ≡ x .front
   pub back-is : part from to s ≡ x .back

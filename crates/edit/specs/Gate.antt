@@ -22,13 +22,13 @@ pub record AreaPlace : Type 0 where
   pub end : ℕ
   pub count : ℕ
 
--- by the footer; without one, no items at the front
+-- those of the file by its footer; without one, none at the front
 unfoldable pub areaPlace : List ℕ → AreaPlace
 areaPlace s =
     footed (findFooter s) (record { start = 0; end = 0; count = 0 }) (λ f.
     record { start = f + 32 - sizeAt s f; end = f; count = countAt s f })
 
--- there, if the gate passes the file
+-- the gate answers that place, if it passes the file
 unfoldable pub gateOf : List ℕ → Editable
 gateOf s = let p = areaPlace s in cond (passesGate s) (Items (p .start) (p .end) (p .count)) Unfit
 
