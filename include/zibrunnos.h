@@ -50,6 +50,9 @@ uint8_t zib_adjust_gain_value(uint8_t current, int32_t steps, bool wrap);
 /* Whether the text is well-formed UTF-8. */
 bool zib_is_utf8(const uint8_t *text, size_t text_len);
 
+/* How many bytes the text has with U+FFFD in place of each ill-formed part, into `size`, where that is at most `room`. Refusal 5. */
+uint32_t zib_lossy_size(const uint8_t *text, size_t text_len, size_t room, size_t *size);
+
 /* Writes the text, with U+FFFD in place of each ill-formed part, at the front of `out`, and its length into `written`. Refusal 5. */
 uint32_t zib_lossy_into(const uint8_t *text, size_t text_len, uint8_t *out, size_t out_len, size_t *written);
 
@@ -69,6 +72,10 @@ uint32_t zib_format_minmax(uint8_t least, uint8_t greatest, uint8_t *out, size_t
 
 /* Whether an item is a range of which a number leaves 0..255. */
 bool zib_range_wraps_out(const uint8_t *key, size_t key_len, const uint8_t *value, size_t value_len, int32_t steps);
+
+/* Steps as decibels, exactly: `minus` is 1 below zero, `millionths` how many millionths of a decibel there are, and `rest` how many
+ * thousand-millionths of one more. */
+uint32_t zib_steps_to_db(int32_t steps, uint32_t *minus, uint64_t *millionths, uint64_t *rest);
 
 /* A stored value after so many steps: `moved` is 1 and the new text stands in `out`, or it is 0 and the value stays as found.
  * Refusal 5. */
@@ -152,13 +159,21 @@ uint32_t zib_read_ape_tag(
 /* The tag of the `count` items of `area`, written to the front of `out`, and its length into `written`. Refusals 12 and 5. */
 uint32_t zib_serialize_ape_tag(const uint8_t *area, size_t area_len, size_t count, uint8_t *out, size_t out_len, size_t *written);
 
+/* Where the file is cut: what precedes its tag ends at `front`, and what follows it stands between `from` and `to`. Without a tag, the
+ * same of the place where one would be put. Refusal 1. */
+uint32_t zib_split_ape_tag(const uint8_t *file, size_t file_len, size_t *front, size_t *from, size_t *to);
+
 /* The file with its tag replaced by the `count` items of `area`, written to the front of `out`, and its length into `written`.
  * Refusals 1, 12 and 5. */
 uint32_t zib_replace_ape_tag(
     const uint8_t *file, size_t file_len, const uint8_t *area, size_t area_len, size_t count, uint8_t *out, size_t out_len,
     size_t *written);
 
-/* ---- An item of a file's tag, set and removed: libc_edit.a */
+/* ---- The editing gate, and an item of a file's tag, set and removed: libc_edit.a */
+
+/* Where the items of a file stand that is fit for editing, and how many there are: all three numbers are 0 where it has no tag.
+ * Refusals 1 and 8. */
+uint32_t zib_gate(const uint8_t *file, size_t file_len, size_t *start, size_t *end, size_t *count);
 
 /* The file with this value at the first item with this key, or with one more item, written to the front of `out`, and its length
  * into `written`. Refusals 1, 3, 4, 8, 6 and 5. */

@@ -50,6 +50,8 @@ static void utf8(void)
     size_t n = 7;
     CHECK(zib_is_utf8(TEXT("\xe2\x82\xac")));
     CHECK(!zib_is_utf8(TEXT("\xff")));
+    CHECK(zib_lossy_size(TEXT("\xe2\x82\x41"), 4, &n) == 0 && n == 4);
+    CHECK(zib_lossy_size(TEXT("\xff\xff"), 5, &n) == ZIB_NO_ROOM && n == 4);
     CHECK(zib_lossy_into(TEXT("\xe2\x82\x41"), out, sizeof out, &n) == 0 && IS(out, n, "\xef\xbf\xbd\x41"));
     CHECK(zib_lossy_into(TEXT("\xe2\x82\x41"), out, 3, &n) == ZIB_NO_ROOM && n == 4);
 }
@@ -60,12 +62,14 @@ static void values(void)
     size_t n = 0;
     int32_t left = 0, right = 0;
     uint32_t flag = 7;
+    uint64_t millionths = 7, rest = 7;
     CHECK(zib_parse_undo(TEXT("-3,junk"), &left, &right, &flag) == 0 && left == -3 && right == -3 && flag == 0);
     CHECK(zib_format_undo_value(0, 1000, true, out, sizeof out, &n) == 0 && IS(out, n, "+000,+1000,W"));
     CHECK(zib_format_undo_value(3, -12, false, out, 10, &n) == ZIB_NO_ROOM);
     CHECK(zib_accumulate_undo(TEXT("+003,-012,N"), 5, -5, &left, &right) == 0 && left == -2 && right == -7);
     CHECK(zib_format_minmax(94, 168, out, sizeof out, &n) == 0 && IS(out, n, "094,168"));
     CHECK(zib_range_wraps_out(TEXT("MP3GAIN_MINMAX"), TEXT("094,168"), 100));
+    CHECK(zib_steps_to_db(-2, &flag, &millionths, &rest) == 0 && flag == 1 && millionths == 3010299 && rest == 956639812);
     CHECK(zib_shift_stored_value(TEXT("MP3GAIN_MINMAX"), TEXT("094,168"), 100, &flag, out, sizeof out, &n) == 0 && flag == 1 && IS(out, n, "194,255"));
     CHECK(zib_shift_stored_value(TEXT("REPLAYGAIN_TRACK_PEAK"), TEXT("0.9"), 1, &flag, out, sizeof out, &n) == 0 && flag == 0);
     CHECK(zib_parse_slip(TEXT("left=-3\nright=+4\nmode=W\n"), &left, &right, &flag) == 0 && left == -3 && right == 4 && flag == 1);
@@ -106,14 +110,20 @@ static void items(void)
 static void files(void)
 {
     uint8_t out[1024], again[1024], left[2] = {10, 0}, right[1] = {0};
-    static uint8_t text[147473];
+    static uint8_t text[147473], tagged[209] = "audio" TAG "TAG", large[16777217];
     uint32_t there = 7;
-    size_t count = 0, n = 0, m = 0, at = 0, peaks = 7;
+    size_t count = 0, n = 0, m = 0, at = 0, peaks = 7, front = 7, from = 7, to = 7;
     CHECK(zib_find_ape_footer(TEXT(TAG), &there, &at) == 0 && there == 1 && at == 44);
     CHECK(zib_read_ape_tag(TEXT(TAG), out, sizeof out, &there, &count, &n) == 0 && there == 1 && count == 1 && IS(out, n, AREA));
     CHECK(zib_serialize_ape_tag(TEXT(AREA), 1, out, sizeof out, &n) == 0 && IS(out, n, TAG));
     CHECK(zib_serialize_ape_tag(TEXT(AREA), 1, out, 75, &n) == ZIB_NO_ROOM);
+    CHECK(zib_split_ape_tag(tagged, sizeof tagged, &front, &from, &to) == 0 && front == 5 && from == 81 && to == 209);
+    CHECK(zib_split_ape_tag(large, sizeof large, &front, &from, &to) == ZIB_FILE_TOO_LONG && front == 5 && from == 81 && to == 209);
     CHECK(zib_replace_ape_tag(TEXT("audio" TAG), NONE, 0, out, sizeof out, &n) == 0 && IS(out, n, "audio"));
+    CHECK(zib_gate(tagged, sizeof tagged, &from, &to, &count) == 0 && from == 37 && to == 49 && count == 1);
+    CHECK(zib_gate(TEXT(END("\x80")), &from, &to, &count) == ZIB_NOT_EDITABLE && from == 37 && to == 49 && count == 1);
+    CHECK(zib_gate(large, sizeof large, &from, &to, &count) == ZIB_FILE_TOO_LONG && count == 1);
+    CHECK(zib_gate(TEXT("audio"), &from, &to, &count) == 0 && from == 0 && to == 0 && count == 0);
     CHECK(zib_set_ape_item(NONE, TEXT("ab"), TEXT("c"), out, 76, &n) == 0 && IS(out, n, TAG));
     CHECK(zib_remove_ape_item(TEXT("audio" TAG), TEXT("AB"), out, sizeof out, &n) == 0 && IS(out, n, "audio"));
     CHECK(zib_level(TEXT("audio" TAG), left, 2, right, 0, 5, 5, false, out, sizeof out, &n, &peaks) == 0 && left[0] == 15 && left[1] == 0 && peaks == 0);

@@ -139,11 +139,13 @@ impl Compare {
     }
 }
 
-/// The recorded answers of one module: lines of words, replayed by the program `NAME_vectors`.
+/// The recorded answers of one module: lines of words, replayed by the program `NAME_vectors`, and runs of programs.
 pub struct Record {
     name: &'static str,
     pub rng: Rng,
     text: String,
+    /// Files of the crates, with what stands in them.
+    files: Vec<(String, Vec<u8>)>,
 }
 
 impl Record {
@@ -151,7 +153,7 @@ impl Record {
         let text = format!(
             "# Answers of the published Rust, and document 01's where it decides otherwise, written by `oracle record --seed {seed}`.\n"
         );
-        Record { name, rng: Rng::new(seed), text }
+        Record { name, rng: Rng::new(seed), text, files: Vec::new() }
     }
 
     pub fn line(&mut self, words: &[String]) {
@@ -159,24 +161,36 @@ impl Record {
         self.text.push('\n');
     }
 
-    /// Writes the list, or, to check, holds the written one against it. A module that records nothing has none.
-    pub fn finish(&self, check: bool) {
-        if self.text.lines().count() == 1 {
+    /// A run of the program of this name: what it reads and what it must write.
+    pub fn run(&mut self, program: &str, stdin: &[u8], stdout: &[u8]) {
+        self.files.push((format!("{program}/stdin"), stdin.to_vec()));
+        self.files.push((format!("{program}/stdout"), stdout.to_vec()));
+    }
+
+    /// Writes the files, or, to check, holds the written ones against them. A module that records nothing has none.
+    pub fn finish(mut self, check: bool) {
+        let answers = self.text.lines().count() - 1;
+        if answers == 0 {
             return;
         }
+        let runs = self.files.len() / 2;
         assert!(self.text.len() < 1 << 20, "the replaying program has room for 1 MiB");
+        self.files.push((format!("{}_vectors/stdin", self.name), self.text.into_bytes()));
         let crates = Path::new(env!("CARGO_MANIFEST_DIR")).join("../crates");
-        let file = crates.join(format!("{}_vectors", self.name)).join("stdin");
-        let fail = |text: &str| -> ! {
-            println!("oracle: {}_vectors/stdin {text}", self.name);
-            std::process::exit(1)
-        };
-        if !check {
-            std::fs::write(&file, &self.text).unwrap_or_else(|e| fail(&e.to_string()));
-        } else if std::fs::read_to_string(&file).unwrap_or_else(|e| fail(&e.to_string())) != self.text {
-            fail("is not what `oracle record` writes");
+        for (file, bytes) in &self.files {
+            let path = crates.join(file);
+            let fail = |text: &str| -> ! {
+                println!("oracle: {file} {text}");
+                std::process::exit(1)
+            };
+            if !check {
+                std::fs::write(&path, bytes).unwrap_or_else(|e| fail(&e.to_string()));
+            } else if std::fs::read(&path).unwrap_or_else(|e| fail(&e.to_string())) != *bytes {
+                fail("is not what `oracle record` writes");
+            }
         }
-        println!("{}: {} recorded answers", self.name, self.text.lines().count() - 1);
+        let more = if runs > 0 { format!(" and {runs} runs") } else { String::new() };
+        println!("{}: {answers} recorded answers{more}", self.name);
     }
 }
 

@@ -3,7 +3,8 @@
 //!
 //! A call that fails gives the [`Refusal`] and has changed nothing. The library never reads or writes outside the slices it is lent, and here
 //! no two of them can overlap where one is written, so every function is safe. Results are new vectors; where the library wants an output, it is
-//! lent one that is long enough, so [`Refusal::NoRoom`] means only that the result would be longer than a file may be.
+//! lent one that is long enough, so [`Refusal::NoRoom`] means only that the result would be longer than a file may be, or than the room that
+//! [`lossy_size`] is told.
 //!
 //! ```
 //! use zibrunnos::{level, undo, Mode};
@@ -33,7 +34,7 @@ pub enum Refusal {
     BadKey = 3,
     /// A value that is not UTF-8.
     NotUtf8 = 4,
-    /// The result is longer than a file may be.
+    /// The result is longer than a file may be, or than the room that [`lossy_size`] is told.
     NoRoom = 5,
     /// The new tag has more than 256 items or 32,768 item bytes.
     TagTooLarge = 6,
@@ -87,7 +88,7 @@ impl fmt::Display for Refusal {
             Refusal::StepOutOfRange => "a step lies outside -255..255",
             Refusal::BadKey => "the key is not one that a tag may have",
             Refusal::NotUtf8 => "the value is not UTF-8",
-            Refusal::NoRoom => "the result would be longer than a file may be",
+            Refusal::NoRoom => "the result would be longer than a file may be, or than the room for it",
             Refusal::TagTooLarge => "the tag would have more than 256 items or 32,768 item bytes",
             Refusal::NoLeftGains => "there are no left gains",
             Refusal::NotEditable => "the file's tag is not fit for editing",
@@ -395,6 +396,38 @@ pub fn replace_tag(file: &[u8], items: &Items) -> Result<Vec<u8>> {
     })
 }
 
+/// What precedes a file's tag and what follows it; without a tag, what would. An ID3v1 block at the end follows it.
+///
+/// ```
+/// let file = zibrunnos::set_item(b"audio", b"Title", b"Floor")?;
+/// assert_eq!(zibrunnos::split_tag(&file)?, (&b"audio"[..], &b""[..]));
+/// # Ok::<(), zibrunnos::Refusal>(())
+/// ```
+pub fn split_tag(file: &[u8]) -> Result<(&[u8], &[u8])> {
+    let (mut front, mut from, mut to) = (0, 0, 0);
+    // SAFETY: a slice by its pointer and length.
+    let reply = unsafe { raw::zib_split_ape_tag(file.as_ptr(), file.len(), &mut front, &mut from, &mut to) };
+    done(reply, (&file[..front], &file[from..to]))
+}
+
+/// The items of a file that is fit for editing: none where it has no tag.
+///
+/// ```
+/// use zibrunnos::{gate, set_item, Refusal};
+///
+/// let file = set_item(b"audio", b"Title", b"Floor")?;
+/// assert_eq!(gate(&file)?.get(b"title")?, Some(&b"Floor"[..]));
+/// assert!(gate(b"audio")?.is_empty());
+/// assert_eq!(gate(&file[file.len() - 32..]), Err(Refusal::NotEditable));
+/// # Ok::<(), zibrunnos::Refusal>(())
+/// ```
+pub fn gate(file: &[u8]) -> Result<Items> {
+    let (mut start, mut end, mut count) = (0, 0, 0);
+    // SAFETY: a slice by its pointer and length.
+    let reply = unsafe { raw::zib_gate(file.as_ptr(), file.len(), &mut start, &mut end, &mut count) };
+    done(reply, Items { bytes: file[start..end].to_vec(), count })
+}
+
 /// The file with this item set in its tag.
 ///
 /// ```
@@ -540,6 +573,21 @@ pub fn is_utf8(text: &[u8]) -> bool {
     unsafe { raw::zib_is_utf8(text.as_ptr(), text.len()) }
 }
 
+/// How many bytes a text has with U+FFFD in place of each ill-formed part, where that is at most `room`.
+///
+/// ```
+/// use zibrunnos::{lossy_size, Refusal};
+///
+/// assert_eq!(lossy_size(b"\xe2\x82\x41", 4), Ok(4));
+/// assert_eq!(lossy_size(b"\xe2\x82\x41", 3), Err(Refusal::NoRoom));
+/// ```
+pub fn lossy_size(text: &[u8], room: usize) -> Result<usize> {
+    let mut size = 0;
+    // SAFETY: a slice by its pointer and length.
+    let reply = unsafe { raw::zib_lossy_size(text.as_ptr(), text.len(), room, &mut size) };
+    done(reply, size)
+}
+
 /// A text with U+FFFD in place of each ill-formed part.
 pub fn lossy(text: &[u8]) -> Result<Vec<u8>> {
     // SAFETY: as in `read_tag`.
@@ -605,6 +653,28 @@ pub fn format_minmax(least: u8, greatest: u8) -> String {
 pub fn range_wraps_out(key: &[u8], value: &[u8], steps: i32) -> bool {
     // SAFETY: slices by their pointers and lengths.
     unsafe { raw::zib_range_wraps_out(key.as_ptr(), key.len(), value.as_ptr(), value.len(), steps) }
+}
+
+/// An amount of decibels, exactly: whether it is below zero, its millionths, and the thousand-millionths of one more.
+#[derive(Clone, Copy, Debug, PartialEq, Eq)]
+pub struct Decibels {
+    pub minus: bool,
+    pub millionths: u64,
+    pub rest: u64,
+}
+
+/// Steps as decibels, exactly: each is 1.505149978319906.
+///
+/// ```
+/// use zibrunnos::{steps_to_db, Decibels};
+///
+/// assert_eq!(steps_to_db(-2), Decibels { minus: true, millionths: 3_010_299, rest: 956_639_812 });
+/// ```
+pub fn steps_to_db(steps: i32) -> Decibels {
+    let (mut minus, mut millionths, mut rest) = (0, 0, 0);
+    // SAFETY: numbers only.
+    unsafe { raw::zib_steps_to_db(steps, &mut minus, &mut millionths, &mut rest) };
+    Decibels { minus: minus == 1, millionths, rest }
 }
 
 /// The text of a stored value after so many steps, or none where it stays as found.

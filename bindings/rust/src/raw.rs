@@ -13,6 +13,7 @@ extern "C" {
     pub fn zib_adjust_gain_value(current: u8, steps: i32, wrap: bool) -> u8;
 
     pub fn zib_is_utf8(text: *const u8, text_len: usize) -> bool;
+    pub fn zib_lossy_size(text: *const u8, text_len: usize, room: usize, size: *mut usize) -> u32;
     pub fn zib_lossy_into(text: *const u8, text_len: usize, out: *mut u8, out_len: usize, written: *mut usize) -> u32;
 
     pub fn zib_parse_undo(text: *const u8, text_len: usize, left: *mut i32, right: *mut i32, wrap: *mut u32) -> u32;
@@ -34,6 +35,7 @@ extern "C" {
     ) -> u32;
     pub fn zib_format_minmax(least: u8, greatest: u8, out: *mut u8, out_len: usize, written: *mut usize) -> u32;
     pub fn zib_range_wraps_out(key: *const u8, key_len: usize, value: *const u8, value_len: usize, steps: i32) -> bool;
+    pub fn zib_steps_to_db(steps: i32, minus: *mut u32, millionths: *mut u64, rest: *mut u64) -> u32;
     pub fn zib_shift_stored_value(
         key: *const u8,
         key_len: usize,
@@ -182,6 +184,13 @@ extern "C" {
         out_len: usize,
         written: *mut usize,
     ) -> u32;
+    pub fn zib_split_ape_tag(
+        file: *const u8,
+        file_len: usize,
+        front: *mut usize,
+        from: *mut usize,
+        to: *mut usize,
+    ) -> u32;
     pub fn zib_replace_ape_tag(
         file: *const u8,
         file_len: usize,
@@ -192,6 +201,7 @@ extern "C" {
         out_len: usize,
         written: *mut usize,
     ) -> u32;
+    pub fn zib_gate(file: *const u8, file_len: usize, start: *mut usize, end: *mut usize, count: *mut usize) -> u32;
     pub fn zib_set_ape_item(
         file: *const u8,
         file_len: usize,

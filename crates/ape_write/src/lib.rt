@@ -1,14 +1,13 @@
 // Tags and files written: serialize_ape_tag, split_ape_tag and replace_ape_tag.
 ghost use mathlib.Core.Path.{_≡_};
 ghost use mathlib.Core.Bool.{true};
-ghost use mathlib.Core.List.{[]};
 ghost use Prim.Native.Nat.{_≤_, _+_, _-_};
-ghost use lib.ListN.{length, take};
+ghost use lib.ListN.{length};
 ghost use Rattle.lists.specs.Choice.{isSome};
 ghost use Rattle.lists.specs.Write.{over};
 ghost use Rattle.items.specs.Items.{parse, itemsIn};
-ghost use Rattle.ape.specs.Tag.{blockBytes, serialize, moved, split, replaced};
-ghost use Rattle.ape_write.specs.Answers.{tagParts, tagLength, serializePlan, roomPlan, replacePlan, writtenAnswer, writtenBytes, Cuts};
+ghost use Rattle.ape.specs.Tag.{blockBytes, serialize, split, replaced};
+ghost use Rattle.ape_write.specs.Answers.{tagParts, tagLength, serializePlan, roomPlan, replacePlan, writtenAnswer, writtenBytes, audioCut, cutOf, Cuts};
 use ape::Footer;
 use frame::TagStart;
 use replies::Refusal;
@@ -105,7 +104,7 @@ pub fn serialize_ape_tag(area: &[u8], count: usize, out: &mut [u8]) -> Written
 // The audio that ends at `end`, with nothing behind it: an ID3v1 block at its end moves behind the tag.
 fn cut_audio(file: &[u8], end: usize) -> Cut
     requires { ⌜ end ≤ length (now file) ⌝ }
-    ensures { λ r. ⌜ Cuts (moved (take end (now (file .entry))) []) (now (file .entry)) (r .front) (r .from) (r .to) ⌝ }
+    ensures { λ r. ⌜ r ≡ audioCut (now (file .entry)) end ⌝ }
 {
     if frame::ends_with_id3v1(&file[0..end]) {
         let front = end - 128;
@@ -124,7 +123,7 @@ fn cut_audio(file: &[u8], end: usize) -> Cut
 
 // Where a file is cut: around its tag, or where one would be put.
 pub fn split_ape_tag(file: &[u8]) -> Cut
-    ensures { λ r. ⌜ Cuts (split (now (file .entry))) (now (file .entry)) (r .front) (r .from) (r .to) ⌝ }
+    ensures { λ r. ⌜ r ≡ cutOf (now (file .entry)) ⌝ }
 {
     let found = ape::find_footer(file);
     let Footer::At(footer) = found else {

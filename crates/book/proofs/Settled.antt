@@ -3,13 +3,13 @@ use Prim.Native.Nat.{ℕ, _+_, _-_, _≤_, _<_}
 use native.Mathlib.Omega.{arith}
 use mathlib.Core.Path.{_≡_, refl, sym, ap, _∙_}
 use mathlib.Core.Logic.{_↔_, _⊎_, inl, inr}
-use mathlib.Core.Bool.{Bool, true, false, _&&_, false≢true}
-use mathlib.Core.Option.{Option, none, some}
+use mathlib.Core.Bool.{Bool, true, false, false≢true}
+use mathlib.Core.Option.{none, some}
 use mathlib.Core.List.{List, [], _∷_, _++_}
 use lib.ListN.{length, take, drop, length-append, length-drop, length-take, take-append-drop}
 use lib.Seq.{length-take-le, drop-append-le, drop-at, drop-length}
 use lib.Dec.{leb, ltb}
-use borrow.Author.Tests.{leb-true, not-true}
+use borrow.Author.Tests.{not-true}
 use Rattle.lists.specs.Bytes.{same, startsWith}
 use Rattle.lists.specs.Choice.{found, isSome}
 use Rattle.lists.specs.Le.{readU32}
@@ -25,9 +25,10 @@ use Rattle.ape.specs.Tag.{blockBytes, tagBytes, serialize, findFooter, started,
 use Rattle.ape.specs.declared.Footer.{Footer}
 use Rattle.ape.specs.declared.Footer.the-variants.{At, Nowhere}
 use Rattle.ape.proofs.Files.{stands-long, footer-within}
-use Rattle.calls.specs.Gate.{hasStart, countsFooter, isVersion2, countFits, areaFits, fit, allValid, gateItems, passesGate, itemsOf}
+use Rattle.calls.specs.Gate.{allValid, gateItems, passesGate, itemsOf}
 use Rattle.book.specs.Book.{settled, Book, bookOf, bookFile}
-use Rattle.calls.proofs.Lists.{both, cond-some, provided-some}
+use Rattle.calls.proofs.Lists.{both}
+use Rattle.calls.proofs.Gates.{gate-footer, fit-tests}
 use Rattle.book.proofs.Sound.{Back, bare, id3, Good, Sound}
 use Rattle.book.proofs.Reading.{law-split, law-gate, law-passes, law-items, law-replaced, law-read, asRead}
 
@@ -190,18 +191,6 @@ start-of f size flags e h = go (ltb (f + 32) (reach size flags)) refl
     go true q = absurd (false≢true (rw q at e))
     go false q = (f + 32 - reach size flags, rw q, omega arith)
 
-fits : (s : List ℕ) (f : ℕ) → fit s f ≡ true → (32 ≤ sizeAt s f) × (hasStart s f ≡ true) × (countAt s f ≤ 256) × (sizeAt s f ≤ 32800)
-unfolding fit
-fits s f e =
-    let z : Bool = countsFooter s f in
-    let a : Bool = hasStart s f in
-    let c : Bool = countFits s f in
-    let d : Bool = areaFits s f in
-    let p = both z (a && (c && d)) ((both (isVersion2 s f) (z && (a && (c && d))) e) .1) in
-    let q = both a (c && d) (p .1) in
-    let r = both c d (q .1) in
-    (leb-true 32 _ (p .0), q .0, leb-true _ 256 (r .0), leb-true _ 32800 (r .1))
-
 area-long : (s : List ℕ) (f : ℕ) → length (areaAt s f) ≤ sizeAt s f - 32
 unfolding areaAt
 area-long s f = rw length-take (omega arith)
@@ -213,15 +202,13 @@ parsed n s ts e =
     let k : isSome (parse n s) ≡ true = rw e in
     (rw (← i) (parse-sane n s), rw (← i) (count-items n s k), rw (← i) (area-length n s k))
 
-gated : (s : List ℕ) (f : ℕ) (ts : List Item) → findFooter s ≡ At f → gateItems s ≡ some ts → Gated s f ts
-unfolding gateItems
-gated s f ts e g =
-    let (c, d) = cond-some (fit s f) _ ts (rw e at g) in
-    let (p, v) = provided-some allValid (parse (countAt s f) (areaAt s f)) ts d in
-    let t = fits s f c in
+gated : (s : List ℕ) (f : ℕ) → findFooter s ≡ At f → passesGate s ≡ true → Gated s f (itemsOf s)
+gated s f e g =
+    let (c, p, v) = gate-footer s f e g in
+    let t = fit-tests s f c in
     let q = start-there s f (footer-within s f e) in
-    let (a, b, r) = start-of f (sizeAt s f) (readU32 s (f + 20)) (rw q at (t .1)) (t .0) in
-    let (x, y, z) = parsed (countAt s f) (areaAt s f) ts p in
+    let (a, b, r) = start-of f (sizeAt s f) (readU32 s (f + 20)) (rw q at (t .2)) (t .1) in
+    let (x, y, z) = parsed (countAt s f) (areaAt s f) (itemsOf s) p in
     record {
       start = a;
       starts = q ∙ b;
@@ -234,14 +221,6 @@ unfolding areaBytes allValid
 nothing = record { sane = tt; valid = refl; few = omega arith; small = omega arith }
 
 -- the items of a file that the gate passes can be written
-gate-some : (s : List ℕ) → passesGate s ≡ true → gateItems s ≡ some (itemsOf s)
-unfolding passesGate itemsOf
-gate-some s e = go (gateItems s) refl e
-  where
-    go : (o : Option (List Item)) → gateItems s ≡ o → isSome o ≡ true → o ≡ some (found o [] (λ ts. ts))
-    go none q e = absurd (false≢true e)
-    go (some ts) q e = refl
-
 gate-nothing : (s : List ℕ) → findFooter s ≡ Nowhere → itemsOf s ≡ []
 unfolding itemsOf gateItems
 gate-nothing s e = rw e
@@ -251,7 +230,7 @@ gate-good s e = go (findFooter s) refl
   where
     go : (x : Footer) → findFooter s ≡ x → Good (itemsOf s)
     go Nowhere q = rw (gate-nothing s q) nothing
-    go (At f) q = gated s f (itemsOf s) q (gate-some s e) .good
+    go (At f) q = gated s f q e .good
 
 -- replacing by a file's own items twice is replacing once
 pub replaced-twice : (s : List ℕ) → Quiet s → passesGate s ≡ true
@@ -333,13 +312,13 @@ settled-quiet s h = go (where-is s)
     go : Where s → Quiet s
     go (nowhere a e) = record { front-quiet = h .quiet; back-quiet = rw (split-none s e) (quiet-none s a) }
     go (before a b t e) =
-        let g = gated s (length s - 160) (itemsOf s) e (gate-some s (h .passes)) in
+        let g = gated s (length s - 160) e (h .passes) in
         let (l, _) = last-id3 s t in
         let m : split s ≡ record { front = take (g .start) s; back = drop (length s - 128) s }
         = split-started s (length s - 160) (g .start) e (g .starts) ∙ ap (moved (take (g .start) s)) (rest-before s b) ∙ move-id3 _ _ l in
         record { front-quiet = h .quiet; back-quiet = rw m (last-quiet s t a) }
     go (at-end a e) =
-        let g = gated s (length s - 32) (itemsOf s) e (gate-some s (h .passes)) in
+        let g = gated s (length s - 32) e (h .passes) in
         let k : 32 ≤ length s = stands-long 32 preamble s a in
         let p : List ℕ = take (g .start) s in
         let m : split s ≡ moved p [] = split-started s (length s - 32) (g .start) e (g .starts) ∙ ap (moved p) (rest-end s a) in

@@ -1,10 +1,11 @@
 -- What the faces of crates ape and ape_write answer and leave in their lent numbers. A refusal leaves them.
 use Prim.Native.Nat.{ℕ}
-use Rattle.replies.specs.Refusal.{numberOf}
+use Rattle.replies.specs.Refusal.{numberOf, Plan, no, yes}
 use Rattle.ape.specs.declared.FooterFound.{FooterFound}
 use Rattle.ape.specs.declared.FooterFound.the-variants.{At, Nowhere, Refused as NotSearched}
 use Rattle.ape.specs.declared.TagRead.{TagRead}
 use Rattle.ape.specs.declared.TagRead.the-variants.{NoTag, Items, Refused as NotRead}
+use Rattle.ape_write.specs.declared.Cut.{Cut}
 use Rattle.ape_write.specs.declared.Written.{Written}
 use Rattle.ape_write.specs.declared.Written.the-variants.{Done, Refused}
 
@@ -39,3 +40,14 @@ pub record WrittenFace : Type 0 where
 abbrev pub writtenFace : Written → ℕ → WrittenFace
 writtenFace (Done n) old = record { reply = 0; written = n }
 writtenFace (Refused r) old = record { reply = numberOf r; written = old }
+
+-- a split: the reply, and where the file is cut
+pub record SplitFace : Type 0 where
+  pub reply : ℕ
+  pub front : ℕ
+  pub from : ℕ
+  pub to : ℕ
+
+abbrev pub splitFace : Plan Cut → ℕ → ℕ → ℕ → SplitFace
+splitFace (no r) front from to = record { reply = numberOf r; front = front; from = from; to = to }
+splitFace (yes c) front from to = record { reply = 0; front = c .front; from = c .from; to = c .to }

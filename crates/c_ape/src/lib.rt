@@ -3,11 +3,12 @@ ghost use mathlib.Core.Path.{_≡_};
 ghost use lib.ListN.{length};
 ghost use Rattle.lists.specs.Write.{over};
 ghost use Rattle.ape.specs.Answers.{footerPlan, footerAnswer, readPlan, readAnswer, readBytes};
-ghost use Rattle.ape_write.specs.Answers.{serializePlan, replacePlan, writtenAnswer, writtenBytes};
-ghost use Rattle.c_ape.specs.ApeFace.{footerFace, readFace, writtenFace};
+ghost use Rattle.ape_write.specs.Answers.{serializePlan, splitPlan, replacePlan, writtenAnswer, writtenBytes};
+ghost use Rattle.c_ape.specs.ApeFace.{footerFace, readFace, writtenFace, splitFace};
 use ape::FooterFound;
 use ape::TagRead;
 use ape_write::Written;
+use replies::Refusal;
 
 // Where the footer of the file's tag stands: `there` is 1 and `footer` its place, or both are 0. Refusal 1.
 #[no_mangle]
@@ -88,6 +89,31 @@ pub extern "C" fn zib_serialize_ape_tag(
         }
         Written::Refused(r) => replies::number(r),
     }
+}
+
+// Where the file is cut: what precedes its tag ends at `front`, and what follows it stands between `from` and `to`. Without a tag, the
+// same of the place where one would be put. Refusal 1.
+#[no_mangle]
+pub extern "C" fn zib_split_ape_tag(
+    file: &[u8],
+    front: &mut usize,
+    from: &mut usize,
+    to: &mut usize,
+) -> u32
+    ensures { λ r. ⌜ (let face = splitFace (splitPlan (now (file .entry))) (now (front .entry)) (now (from .entry)) (now (to .entry)) in
+        (r ≡ face .reply) × (now (front .exit) ≡ face .front) × (now (from .exit) ≡ face .from) × (now (to .exit) ≡ face .to)) ⌝ }
+{
+    if replies::FILE_LIMIT < file.len() {
+        return replies::number(Refusal::FileTooLong);
+    }
+    let cut = ape_write::split_ape_tag(file);
+    let a = cut.front;
+    let b = cut.from;
+    let c = cut.to;
+    *front = a;
+    *from = b;
+    *to = c;
+    0
 }
 
 // The file with its tag replaced by the `count` items of `area`, written to the front of `out`, and its length into `written`.

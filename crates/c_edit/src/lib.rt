@@ -1,11 +1,45 @@
-// The faces of crate edit: set and remove on a file.
+// The faces of crate edit: the editing gate, and set and remove on a file.
 ghost use mathlib.Core.Path.{_≡_};
 ghost use lib.ListN.{length};
 ghost use Rattle.lists.specs.Write.{over};
 ghost use Rattle.ape_write.specs.Answers.{writtenAnswer, writtenBytes};
 ghost use Rattle.calls.specs.Calls.{setPlan, removePlan};
+ghost use Rattle.edit.specs.Gate.{gatePlan};
 ghost use Rattle.c_ape.specs.ApeFace.{writtenFace};
+ghost use Rattle.c_edit.specs.EditFace.{gateFace};
 use ape_write::Written;
+use edit::Editable;
+use replies::Refusal;
+
+// Where the items of a file stand that is fit for editing, and how many there are: all three numbers are 0 where it has no tag. Refusals
+// 1 and 8.
+#[no_mangle]
+pub extern "C" fn zib_gate(
+    file: &[u8],
+    start: &mut usize,
+    end: &mut usize,
+    count: &mut usize,
+) -> u32
+    ensures { λ r. ⌜ (let face = gateFace (gatePlan (now (file .entry))) (now (start .entry)) (now (end .entry)) (now (count .entry)) in
+        (r ≡ face .reply) × (now (start .exit) ≡ face .start) × (now (end .exit) ≡ face .end) × (now (count .exit) ≡ face .count)) ⌝ }
+{
+    if replies::FILE_LIMIT < file.len() {
+        return replies::number(Refusal::FileTooLong);
+    }
+    let g = edit::gate(file);
+    let Editable::Items {
+        start: a,
+        end: b,
+        count: n,
+    } = g
+    else {
+        return replies::number(Refusal::NotEditable);
+    };
+    *start = a;
+    *end = b;
+    *count = n;
+    0
+}
 
 // The file with this value at the first item with this key, or with one more item, written to the front of `out`, and its length into
 // `written`. Refusals 1, 3, 4, 8, 6 and 5.

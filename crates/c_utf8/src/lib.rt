@@ -15,6 +15,20 @@ pub extern "C" fn zib_is_utf8(text: &[u8]) -> bool
     utf8::is_utf8(text)
 }
 
+// How many bytes the text has with U+FFFD in place of each ill-formed part, into `size`, where that is at most `room`. Refusal 5.
+#[no_mangle]
+pub extern "C" fn zib_lossy_size(text: &[u8], room: usize, size: &mut usize) -> u32
+    ensures { λ r. ⌜ (let plan = within room (lossy (now (text .entry))) in
+        (r ≡ conversion (answer plan) (now (size .entry)) .reply) × (now (size .exit) ≡ conversion (answer plan) (now (size .entry)) .written)) ⌝ }
+{
+    let x = utf8::lossy_size(text, room);
+    let Converted::Done(n) = x else {
+        return 5;
+    };
+    *size = n;
+    0
+}
+
 // Writes the text, with U+FFFD in place of each ill-formed part, at the front of `out`, and its length into `written`. Refusal 5.
 #[no_mangle]
 pub extern "C" fn zib_lossy_into(text: &[u8], out: &mut [u8], written: &mut usize) -> u32

@@ -1,4 +1,4 @@
-// The faces of crates values and slip.
+// The faces of crates values and slip, and of the steps of crate decibels.
 ghost use mathlib.Core.Path.{_≡_};
 ghost use Prim.Native.Nat.{_≤_};
 ghost use lib.ListN.{length, take};
@@ -6,6 +6,7 @@ ghost use Rattle.values.specs.Undo.{parseUndo, undoWraps, formatUndo, accumulat
 ghost use Rattle.values.specs.Range.{formatRange};
 ghost use Rattle.values.specs.Stored.{rangeWrapsOut, shiftStored};
 ghost use Rattle.slip.specs.Slip.{readSlip};
+ghost use Rattle.decibels.specs.Gain.{stepsToDb};
 ghost use Rattle.c_values.specs.ValuesFace.{flag, wraps, textFace, shiftFace, slipFace};
 use decimal::Text;
 use frame::GainMode;
@@ -125,6 +126,27 @@ pub extern "C" fn zib_range_wraps_out(key: &[u8], value: &[u8], steps: i32) -> b
     ensures { λ r. ⌜ r ≡ rangeWrapsOut (now (key .entry)) (now (value .entry)) steps ⌝ }
 {
     values::range_wraps_out(key, value, GainSteps(steps))
+}
+
+// Steps as decibels, exactly: `minus` is 1 below zero, `millionths` how many millionths of a decibel there are, and `rest` how many
+// thousand-millionths of one more.
+#[no_mangle]
+pub extern "C" fn zib_steps_to_db(
+    steps: i32,
+    minus: &mut u32,
+    millionths: &mut u64,
+    rest: &mut u64,
+) -> u32
+    ensures { λ r. ⌜ (r ≡ 0) × (now (minus .exit) ≡ flag (stepsToDb steps .0)) × (now (millionths .exit) ≡ stepsToDb steps .1)
+        × (now (rest .exit) ≡ stepsToDb steps .2) ⌝ }
+{
+    let db = decibels::steps_to_db(GainSteps(steps));
+    let a = db.1;
+    let b = db.2;
+    *millionths = a;
+    *rest = b;
+    *minus = flag_number(db.0);
+    0
 }
 
 // A stored value after so many steps: `moved` is 1 and the new text stands in `out`, or it is 0 and the value stays as found. Refusal 5.

@@ -1,4 +1,5 @@
 pub mod Lists
+pub mod Gates
 pub mod Texts
 pub mod Items
 pub mod Figures

@@ -1,23 +1,28 @@
 -- Laws of the gate, by the tests of the code.
 use Prim.Native.Nat.{ℕ, _+_, _-_, _≤_, _<_}
 use native.Mathlib.Omega.{arith}
-use mathlib.Core.Path.{_≡_, refl, sym, ap, _∙_}
-use mathlib.Core.Bool.{Bool, true, false, _&&_, cond, true≢false}
-use mathlib.Core.Option.{Option, none, some}
-use mathlib.Core.List.{List, [], _∷_}
-use lib.ListN.{length, take, drop}
-use lib.Dec.{leb, ltb, eqb}
-use borrow.Author.Tests.{le-leb, lt-leb, leb-true, ltb-false, eq-eqb, ne-eqb}
-use Rattle.lists.specs.Choice.{found, provided, isSome}
+use mathlib.Core.Path.{_≡_, refl, sym}
+use mathlib.Core.Bool.{Bool, true, false, true≢false}
+use mathlib.Core.List.{List, []}
+use lib.ListN.{length}
+use lib.Dec.{leb, ltb}
+use borrow.Author.Tests.{le-leb, lt-leb, ltb-false, eq-eqb, ne-eqb}
+use Rattle.lists.specs.Choice.{provided, isSome}
 use Rattle.lists.specs.Le.{readU32}
 use Rattle.lists.specs.Write.{part}
 use Rattle.frame.specs.Tail.{reach, startOf, tagStart}
 use Rattle.frame.specs.declared.TagStart.{TagStart}
 use Rattle.frame.specs.declared.TagStart.the-variants.{At as StartAt, Nowhere as NoStart}
-use Rattle.items.specs.Items.{Item, parse, itemsIn}
-use Rattle.ape.specs.Tag.{findFooter, versionAt, sizeAt, countAt, areaAt}
+use Rattle.items.specs.Items.{parse}
+use Rattle.ape.specs.Tag.{findFooter, started, versionAt, sizeAt, countAt, areaAt}
+use Rattle.ape.specs.declared.Footer.{Footer}
 use Rattle.ape.specs.declared.Footer.the-variants.{At, Nowhere}
+use Rattle.ape.proofs.Files.{footer-within, area-part}
 use Rattle.calls.specs.Gate.{fit, allValid, gateItems, passesGate, itemsOf}
+use Rattle.calls.proofs.Gates.{gate-footer, fit-tests}
+use Rattle.edit.specs.declared.Editable.{Editable}
+use Rattle.edit.specs.declared.Editable.the-variants.{Items, Unfit}
+use Rattle.edit.specs.Gate.{areaPlace, gateOf, Passed}
 
 -- a tag that starts in the file is not longer than what precedes the footer's end
 pub start-size : (s : List ℕ) (f a : ℕ) → tagStart s f ≡ StartAt a → sizeAt s f ≤ f + 32
@@ -29,39 +34,53 @@ start-size s f a e = go (leb (f + 32) (length s)) (ltb (f + 32) (reach (sizeAt s
     go true false p q = omega (arith, ltb-false (f + 32) (reach (sizeAt s f) (readU32 s (f + 20))) q)
     go false u p q = let x : NoStart ≡ StartAt a = rw p at e in absurd (let z : _≡_ {A = ℕ} 0 1 = cc in omega arith)
 
+-- ---- the answer
+
+gate-shut : (s : List ℕ) → passesGate s ≡ false → Unfit ≡ gateOf s
+unfolding gateOf
+gate-shut s e = rw e
+
+gate-open : (s : List ℕ) (f : ℕ) → findFooter s ≡ At f → passesGate s ≡ true → Items (f + 32 - sizeAt s f) f (countAt s f) ≡ gateOf s
+unfolding gateOf areaPlace
+gate-open s f at e = rw (e, at)
+
 -- no footer: no items
-pub gate-none : (s : List ℕ) → findFooter s ≡ Nowhere → (passesGate s ≡ true) × (itemsOf s ≡ [])
+gate-none : (s : List ℕ) → findFooter s ≡ Nowhere → (passesGate s ≡ true) × (itemsOf s ≡ [])
 unfolding passesGate itemsOf gateItems
 gate-none s e = rw e (refl, refl)
+
+pub gate-empty : (s : List ℕ) → findFooter s ≡ Nowhere → Items 0 0 0 ≡ gateOf s
+unfolding gateOf areaPlace
+gate-empty s e = rw (gate-none s e .0, e)
 
 module _ (s : List ℕ) (f : ℕ) (at : findFooter s ≡ At f) where
   -- ---- one test of the footer fails
 
-  unfit : fit s f ≡ false → passesGate s ≡ false
+  unfit : fit s f ≡ false → Unfit ≡ gateOf s
   unfolding passesGate gateItems
-  unfit e = rw (at, e)
+  unfit e = gate-shut s (rw (at, e))
 
-  pub other-version : (versionAt s f ≡ 2000 → ⊥) → passesGate s ≡ false
+  pub other-version : (versionAt s f ≡ 2000 → ⊥) → Unfit ≡ gateOf s
   unfolding fit
   other-version h = unfit (rw (ne-eqb _ _ h))
 
   module _ (v : versionAt s f ≡ 2000) where
-    pub no-footer-counted : sizeAt s f < 32 → passesGate s ≡ false
+    pub no-footer-counted : sizeAt s f < 32 → Unfit ≡ gateOf s
     unfolding fit
     no-footer-counted h = unfit (rw (eq-eqb _ _ v, lt-leb _ _ h))
 
     module _ (z : 32 ≤ sizeAt s f) where
-      pub no-start : tagStart s f ≡ NoStart → passesGate s ≡ false
+      pub no-start : tagStart s f ≡ NoStart → Unfit ≡ gateOf s
       unfolding fit
       no-start e = unfit (rw (eq-eqb _ _ v, le-leb _ _ z, e))
 
       module _ (a : ℕ) (b : tagStart s f ≡ StartAt a) where
-        pub many-items : 256 < countAt s f → passesGate s ≡ false
+        pub many-items : 256 < countAt s f → Unfit ≡ gateOf s
         unfolding fit
         many-items h = unfit (rw (eq-eqb _ _ v, le-leb _ _ z, b, lt-leb _ _ h))
 
         module _ (n : countAt s f ≤ 256) where
-          pub many-bytes : 32800 < sizeAt s f → passesGate s ≡ false
+          pub many-bytes : 32800 < sizeAt s f → Unfit ≡ gateOf s
           unfolding fit
           many-bytes h = unfit (rw (eq-eqb _ _ v, le-leb _ _ z, b, le-leb _ _ n, lt-leb _ _ h))
 
@@ -72,21 +91,55 @@ module _ (s : List ℕ) (f : ℕ) (at : findFooter s ≡ At f) where
             unfolding fit
             fits = rw (eq-eqb _ _ v, le-leb _ _ z, b, le-leb _ _ n, le-leb _ _ l)
 
-            pub gated : (t : Bool) → isSome (provided allValid (parse (countAt s f) (areaAt s f))) ≡ t → passesGate s ≡ t
+            gated : (t : Bool) → isSome (provided allValid (parse (countAt s f) (areaAt s f))) ≡ t → passesGate s ≡ t
             unfolding passesGate gateItems
             gated t e = rw (at, fits) e
 
-            pub gated-items : isSome (provided allValid (parse (countAt s f) (areaAt s f))) ≡ true
-                → (isSome (parse (countAt s f) (areaAt s f)) ≡ true) × (itemsIn (countAt s f) (areaAt s f) ≡ itemsOf s)
-            unfolding itemsOf gateItems
-            gated-items e = go (parse (countAt s f) (areaAt s f)) refl e
-              where
-                inner : (ts : List Item) (b : Bool) → allValid ts ≡ b → parse (countAt s f) (areaAt s f) ≡ some ts → isSome (cond b (some ts) none) ≡ true
-                    → (isSome (parse (countAt s f) (areaAt s f)) ≡ true) × (itemsIn (countAt s f) (areaAt s f) ≡ itemsOf s)
-                inner ts true p q e = rw (at, fits, q, p) (refl, refl)
-                inner ts false p q e = absurd (true≢false (sym e))
+            pub bad-items : isSome (provided allValid (parse (countAt s f) (areaAt s f))) ≡ false → Unfit ≡ gateOf s
+            bad-items e = gate-shut s (gated false e)
 
-                go : (o : Option (List Item)) → parse (countAt s f) (areaAt s f) ≡ o → isSome (provided allValid o) ≡ true
-                    → (isSome (parse (countAt s f) (areaAt s f)) ≡ true) × (itemsIn (countAt s f) (areaAt s f) ≡ itemsOf s)
-                go none q e = absurd (true≢false (sym e))
-                go (some ts) q e = inner ts (allValid ts) refl q e
+            pub good-items : isSome (provided allValid (parse (countAt s f) (areaAt s f))) ≡ true → Items (f + 32 - sizeAt s f) f (countAt s f) ≡ gateOf s
+            good-items e = gate-open s f at (gated true e)
+
+-- ---- what a caller learns from it
+
+footer-passed : (s : List ℕ) (f : ℕ) → findFooter s ≡ At f → passesGate s ≡ true → Passed s (f + 32 - sizeAt s f) f (countAt s f)
+footer-passed s f at e =
+    let (fits, p, v) = gate-footer s f at e in
+    let t = fit-tests s f fits in
+    let k : sizeAt s f ≤ f + 32 = start (tagStart s f) refl (t .2) in
+    let same : part (f + 32 - sizeAt s f) f s ≡ areaAt s f = area-part s f (f + 32 - sizeAt s f) (sizeAt s f) refl (omega arith) (λ h. refl) in
+    record {
+      passes = e;
+      order = omega arith;
+      within = omega (arith, footer-within s f at);
+      good = rw (same, p);
+      items = rw (same, p);
+      few = t .3;
+      short = omega arith;
+    }
+  where
+    start : (a : TagStart) → tagStart s f ≡ a → started a false (λ n. true) ≡ true → sizeAt s f ≤ f + 32
+    start (StartAt a) b h = start-size s f a b
+    start NoStart b h = absurd (true≢false (sym h))
+
+nothing-passed : (s : List ℕ) → findFooter s ≡ Nowhere → Passed s 0 0 0
+unfolding parse
+nothing-passed s e =
+    let (p, i) = gate-none s e in
+    record { passes = p; order = omega arith; within = omega arith; good = refl; items = sym i; few = omega arith; short = omega arith }
+
+abbrev pub GateIs : List ℕ → Editable → Type 0
+GateIs s (Items start end count) = Passed s start end count
+GateIs s Unfit = passesGate s ≡ false
+
+pub gate-is : (s : List ℕ) (g : Editable) → g ≡ gateOf s → GateIs s g
+gate-is s g e = rw e (go (passesGate s) refl)
+  where
+    passed : (x : Footer) → findFooter s ≡ x → passesGate s ≡ true → GateIs s (gateOf s)
+    passed Nowhere q t = rw (← gate-empty s q) (nothing-passed s q)
+    passed (At f) q t = rw (← gate-open s f q t) (footer-passed s f q t)
+
+    go : (t : Bool) → passesGate s ≡ t → GateIs s (gateOf s)
+    go true t = passed (findFooter s) refl t
+    go false t = rw (← gate-shut s t) t

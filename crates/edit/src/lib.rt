@@ -12,7 +12,7 @@ ghost use Rattle.area_edit.specs.Edits.{dropped};
 ghost use Rattle.ape_write.specs.Answers.{writtenAnswer, writtenBytes};
 ghost use Rattle.calls.specs.Gate.{allValid, itemsOf};
 ghost use Rattle.calls.specs.Calls.{setPlan, removePlan};
-ghost use Rattle.edit.specs.Gate.{Passed, GateIs, tagPlan};
+ghost use Rattle.edit.specs.Gate.{gateOf, Passed, tagPlan};
 use ape::Footer;
 use ape_write::Written;
 use area_edit::Drop;
@@ -75,7 +75,7 @@ fn is_clean(area: &[u8], count: usize) -> bool
 
 // Where the items of the file's tag stand, if the file is fit for editing.
 pub fn gate(file: &[u8]) -> Editable
-    ensures { λ r. ⌜ GateIs (now (file .entry)) r ⌝ }
+    ensures { λ r. ⌜ r ≡ gateOf (now (file .entry)) ⌝ }
 {
     let found = ape::find_footer(file);
     let Footer::At(footer) = found else {

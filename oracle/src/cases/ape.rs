@@ -27,6 +27,13 @@ pub mod library {
             room: usize,
             written: *mut usize,
         ) -> u32;
+        fn zib_split_ape_tag(
+            file: *const u8,
+            length: usize,
+            front: *mut usize,
+            from: *mut usize,
+            to: *mut usize,
+        ) -> u32;
         fn zib_replace_ape_tag(
             file: *const u8,
             length: usize,
@@ -70,6 +77,14 @@ pub mod library {
             zib_serialize_ape_tag(area.as_ptr(), area.len(), count, out.as_mut_ptr(), out.len(), &mut written)
         };
         done(reply, written)
+    }
+
+    /// Where what precedes the tag ends, and where what follows it starts and ends.
+    pub fn split_ape_tag(file: &[u8]) -> Result<(usize, usize, usize), u32> {
+        let (mut front, mut from, mut to) = (7, 7, 7);
+        let reply = unsafe { zib_split_ape_tag(file.as_ptr(), file.len(), &mut front, &mut from, &mut to) };
+        assert!(reply == 0 || (front, from, to) == (7, 7, 7), "a refused call changed a lent number");
+        done(reply, (front, from, to))
     }
 
     pub fn replace_ape_tag(file: &[u8], area: &[u8], count: usize, out: &mut [u8]) -> Result<usize, u32> {
@@ -136,6 +151,20 @@ fn our_read(file: &[u8]) -> Option<(usize, Vec<u8>)> {
         count = Some(n);
     }
     count.map(|n| (n, area.unwrap()))
+}
+
+/// Where what precedes the tag ends, and where what follows it stands, if anything does.
+type Cut = (usize, Option<(usize, usize)>);
+
+fn published_split(file: &[u8]) -> Cut {
+    let (audio, rest) = reach::parts(file);
+    let from = || rest.as_ptr() as usize - file.as_ptr() as usize;
+    (audio.len(), (!rest.is_empty()).then(|| (from(), from() + rest.len())))
+}
+
+fn our_split(file: &[u8]) -> Cut {
+    let (front, from, to) = library::split_ape_tag(file).unwrap();
+    (front, (from != to).then_some((from, to)))
 }
 
 pub fn item(key: &str, value: &str) -> ApeItem {
@@ -253,6 +282,7 @@ pub fn random_file(rng: &mut Rng) -> Vec<u8> {
 fn both(c: &mut Compare, file: &[u8], tags: &[ApeTag]) {
     c.bytes("find_ape_footer", file, |s| Ok(find_ape_footer(s)), library::find_ape_footer);
     c.bytes("read_ape_tag", file, published_read, our_read);
+    c.bytes("split_ape_tag", file, published_split, our_split);
     for tag in tags {
         let (area, count) = (area_of(tag), tag.len());
         c.bytes(
@@ -381,7 +411,9 @@ fn limits(c: &mut Compare) {
     let file = vec![0x55; LIMIT + 1];
     let tag = &small_tags()[1];
     let area = area_of(tag);
-    c.inputs += 6;
+    c.inputs += 8;
+    assert_eq!(library::split_ape_tag(&file), Err(1));
+    assert_eq!(library::split_ape_tag(&file[..LIMIT]), Ok((LIMIT, LIMIT, LIMIT)));
     assert_eq!(library::find_ape_footer(&file), Err(1));
     assert_eq!(library::find_ape_footer(&file[..LIMIT]), Ok(None));
     assert_eq!(library::read_ape_tag(&file, &mut out), Err(1));

@@ -1,5 +1,5 @@
-//! Crates `edit` and `undo`: set and remove on a file, and undo on a file and its gains; with `level` and `shift`, the level call and the
-//! shift of an item area.
+//! Crates `edit` and `undo`: the gate, set and remove on a file, and undo on a file and its gains; with `level` and `shift`, the level call
+//! and the shift of an item area.
 //!
 //! The editing gate and the refusals are not in the published Rust: they are read here a second time from document 01. What an
 //! accepted call does to the tag, the file and the gains is the published Rust's.
@@ -15,6 +15,7 @@ pub const CASE: Case = Case { name: "edit", record, compare, bench };
 /// The declarations, as Rust, and safe wrappers. A refusal is `Err` with its number.
 pub mod library {
     extern "C" {
+        fn zib_gate(file: *const u8, length: usize, start: *mut usize, end: *mut usize, count: *mut usize) -> u32;
         fn zib_set_ape_item(
             file: *const u8,
             length: usize,
@@ -57,9 +58,17 @@ pub mod library {
         }
     }
 
+    /// Where the items stand, and how many there are.
+    pub fn gate(file: &[u8]) -> Result<(usize, usize, usize), u32> {
+        let (mut start, mut end, mut count) = (7, 7, 7);
+        // SAFETY: pointers and lengths of slices; the lent numbers live through the call. So below.
+        let reply = unsafe { zib_gate(file.as_ptr(), file.len(), &mut start, &mut end, &mut count) };
+        assert!(reply == 0 || (start, end, count) == (7, 7, 7), "a refused call changed a lent number");
+        done(reply, (start, end, count))
+    }
+
     pub fn set_ape_item(file: &[u8], key: &[u8], value: &[u8], out: &mut [u8]) -> Result<usize, u32> {
         let mut written = 7;
-        // SAFETY: pointers and lengths of slices; the lent numbers live through the call. So below.
         let reply = unsafe {
             let (f, k, v, o) = (file.as_ptr(), key.as_ptr(), value.as_ptr(), out.as_mut_ptr());
             zib_set_ape_item(f, file.len(), k, key.len(), v, value.len(), o, out.len(), &mut written)
@@ -128,6 +137,13 @@ pub fn gate(file: &[u8]) -> Option<ApeTag> {
         rest = &rest[8 + key + 1 + length..];
     }
     Some(tag_of(items))
+}
+
+/// The same as places: the items end at the footer, and stand nowhere without one.
+fn gate_places(file: &[u8]) -> Result<(usize, usize, usize), u32> {
+    let tag = gate(file).ok_or(8u32)?;
+    let end = find_ape_footer(file).unwrap_or(0);
+    Ok((end - area_of(&tag).len(), end, tag.len()))
 }
 
 /// Document 01's rule for a key.
@@ -320,6 +336,7 @@ pub fn around(rng: &mut Rng, tag: &ApeTag) -> Vec<u8> {
 
 fn edits(c: &mut Compare, file: &[u8], key: &[u8], value: &[u8]) {
     let room = |s: &[u8]| s.len() + key.len() + value.len() + 200;
+    c.bytes("gate", file, gate_places, library::gate);
     c.bytes(
         "set_ape_item",
         file,
@@ -410,7 +427,9 @@ fn compare(c: &mut Compare) {
     // The limit of 16,777,216 bytes, and one past it: files and results.
     let file = vec![0x55; LIMIT + 1];
     let mut out = vec![0; LIMIT + 100];
-    c.inputs += 5;
+    c.inputs += 7;
+    assert_eq!(library::gate(&file), Err(1));
+    assert_eq!(library::gate(&file[..LIMIT]), Ok((0, 0, 0)));
     assert_eq!(library::set_ape_item(&file, b"A", b"\xFF", &mut out), Err(1));
     assert_eq!(library::remove_ape_item(&file, b"A", &mut out), Err(1));
     assert_eq!(library::undo(&file, &mut [], &mut [], &mut out), Err(1));

@@ -2,7 +2,7 @@
 
 use super::ape::{block, item, random_file, tag_of};
 use super::Case;
-use crate::ape::{reach, read_ape_tag};
+use crate::ape::{reach, read_ape_tag, ApeTag};
 use crate::tools::{hex, Bench, Compare, Record, Rng};
 
 pub const CASE: Case = Case { name: "listing", record, compare, bench };
@@ -102,33 +102,38 @@ fn longest(size: usize) -> Vec<u8> {
     raw(0, &[(b"", &vec![0xFF; size - 41])], 1)
 }
 
-/// The files that are recorded by name.
-fn named() -> Vec<Vec<u8>> {
+/// Document 01's example: key `AB`, value `c`.
+fn example() -> ApeTag {
+    tag_of(vec![item("AB", "c")])
+}
+
+/// The files that are recorded by name, each with a run of the program: crate `list_NAME`.
+fn named() -> Vec<(&'static str, Vec<u8>)> {
     let long = longest(LIMIT + 100);
     vec![
-        Vec::new(),
-        b"no tag".to_vec(),
-        raw(5, &[], 0),
-        reach::replace(b"audio", &tag_of(vec![item("AB", "c")])),
-        raw(5, &[(b"A\\\x1f\x7f", b"\\ \x1f~\x7f\n"), (b"B", b"p\0q")], 2),
-        raw(5, &[(b"\xFF\xC3", b"\xC3\xA9 \xE2\x82 \xFF\x80")], 1),
-        raw(5, &[(b"a=b", b"c=d")], 1),
+        ("empty", Vec::new()),
+        ("no_tag", b"no tag".to_vec()),
+        ("no_items", raw(5, &[], 0)),
+        ("one_item", reach::replace(b"audio", &example())),
+        ("escapes", raw(5, &[(b"A\\\x1f\x7f", b"\\ \x1f~\x7f\n"), (b"B", b"p\0q")], 2)),
+        ("broken_utf8", raw(5, &[(b"\xFF\xC3", b"\xC3\xA9 \xE2\x82 \xFF\x80")], 1)),
+        ("equals_sign", raw(5, &[(b"a=b", b"c=d")], 1)),
         // The footer says more items than are there, and fewer.
-        raw(5, &[(b"AB", b"c")], 7),
-        raw(5, &[(b"AB", b"c"), (b"CD", b"e")], 1),
-        // The limit, one byte more, and a tag that the limit cuts.
-        longest(LIMIT),
-        longest(LIMIT + 1),
-        long[100..].to_vec(),
-        include_bytes!("../../tagged/mp3gain.mp3").to_vec(),
-        include_bytes!("../../tagged/mutagen.mp3").to_vec(),
+        ("count_too_high", raw(5, &[(b"AB", b"c")], 7)),
+        ("count_too_low", raw(5, &[(b"AB", b"c"), (b"CD", b"e")], 1)),
+        // The limit, one byte more, and the last bytes of a tag that the limit cuts.
+        ("at_limit", longest(LIMIT)),
+        ("past_limit", longest(LIMIT + 1)),
+        ("cut_tag", long[100..].to_vec()),
+        ("mp3gain", include_bytes!("../../tagged/mp3gain.mp3").to_vec()),
+        ("mutagen", include_bytes!("../../tagged/mutagen.mp3").to_vec()),
     ]
 }
 
 fn compare(c: &mut Compare) {
     let both = |c: &mut Compare, file: &[u8]| c.bytes("list_tag", file, published, ours);
     let named = named();
-    for file in &named {
+    for (_, file) in &named {
         both(c, file);
     }
     // Every byte alone in a key and in a value.
@@ -146,7 +151,7 @@ fn compare(c: &mut Compare) {
         both(c, &raw(size - 44, &[(b"AB", b"c")], 1));
     }
     // Every cut and many changes of small files.
-    for file in named.iter().filter(|f| f.len() < 2000) {
+    for (_, file) in named.iter().filter(|(_, f)| f.len() < 2000) {
         for n in 0..file.len() {
             both(c, &file[n..]);
             both(c, &file[..n]);
@@ -168,7 +173,13 @@ fn compare(c: &mut Compare) {
 }
 
 fn record(r: &mut Record) {
-    let mut files = named();
+    let alone = reach::serialize(&example());
+    r.run("list", &alone, &published(&alone));
+    let mut files = Vec::new();
+    for (name, file) in named() {
+        r.run(&format!("list_{name}"), &file, &published(&file));
+        files.push(file);
+    }
     files.extend((0..100).map(|_| random_file(&mut r.rng)));
     files.extend((0..100).map(|_| random_text(&mut r.rng)));
     for file in &files {

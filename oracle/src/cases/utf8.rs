@@ -10,12 +10,22 @@ pub const CASE: Case = Case { name: "utf8", record, compare, bench };
 mod library {
     extern "C" {
         fn zib_is_utf8(text: *const u8, length: usize) -> bool;
+        fn zib_lossy_size(text: *const u8, length: usize, room: usize, size: *mut usize) -> u32;
         fn zib_lossy_into(text: *const u8, length: usize, out: *mut u8, room: usize, written: *mut usize) -> u32;
     }
 
     pub fn is_utf8(text: &[u8]) -> bool {
         // SAFETY: the pointer and the length are those of a slice.
         unsafe { zib_is_utf8(text.as_ptr(), text.len()) }
+    }
+
+    /// The length of the text, or none where it is more than the room.
+    pub fn lossy_size(text: &[u8], room: usize) -> Option<usize> {
+        let mut size = usize::MAX;
+        // SAFETY: the pointer and the length are those of a slice, and `size` lives through the call.
+        let reply = unsafe { zib_lossy_size(text.as_ptr(), text.len(), room, &mut size) };
+        assert!(reply == 0 || reply == 5 && size == usize::MAX);
+        (reply == 0).then_some(size)
     }
 
     /// The length of what was written, or none where there is no room.
@@ -59,6 +69,9 @@ fn rooms(s: &[u8], out: &mut [u8]) -> &'static str {
         return "wrote another text";
     }
     out[..n].fill(UNTOUCHED);
+    if library::lossy_size(s, n) != Some(text.len()) || n > 0 && library::lossy_size(s, n - 1).is_some() {
+        return "another size";
+    }
     if n > 0 && (library::lossy_into(s, &mut out[..n - 1]).is_some() || !untouched(&out[..n])) {
         return "one byte less than enough: accepted, or changed";
     }

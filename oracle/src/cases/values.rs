@@ -9,6 +9,7 @@ use crate::ape::{
     accumulate_undo, format_minmax, format_undo_value, parse_undo_values, parse_undo_wrap, range_wraps_out,
     shift_stored_value, MP3GAIN_VALUE_KEYS,
 };
+use crate::gain::steps_to_db;
 use crate::tools::{hex, Bench, Compare, Record, Rng};
 use std::fmt::Debug;
 use std::hint::black_box;
@@ -43,6 +44,7 @@ mod library {
             value_length: usize,
             steps: i32,
         ) -> bool;
+        fn zib_steps_to_db(steps: i32, minus: *mut u32, millionths: *mut u64, rest: *mut u64) -> u32;
         fn zib_shift_stored_value(
             key: *const u8,
             key_length: usize,
@@ -82,6 +84,13 @@ mod library {
 
     pub fn range_wraps_out(key: &[u8], value: &[u8], steps: i32) -> bool {
         unsafe { zib_range_wraps_out(key.as_ptr(), key.len(), value.as_ptr(), value.len(), steps) }
+    }
+
+    pub fn steps_to_db(steps: i32) -> (bool, u64, u64) {
+        let (mut minus, mut millionths, mut rest) = (7, 7, 7);
+        let reply = unsafe { zib_steps_to_db(steps, &mut minus, &mut millionths, &mut rest) };
+        assert!(reply == 0 && minus < 2);
+        (minus == 1, millionths, rest)
     }
 
     pub fn shift_into(
@@ -475,6 +484,7 @@ fn compare(c: &mut Compare) {
     compare_ranges(c);
     compare_gains(c);
     compare_slips(c);
+    compare_steps(c);
 }
 
 fn compare_undo(c: &mut Compare) {
@@ -685,6 +695,34 @@ fn compare_slips(c: &mut Compare) {
         slip(c, text.as_bytes());
         let near = nearly(&mut c.rng, text.as_bytes());
         slip(c, &near);
+    }
+}
+
+/// Steps as decibels, exactly; for steps in -255..255 f64 gives the same millionth.
+fn compare_steps(c: &mut Compare) {
+    let exact = |steps: i64| {
+        let units = (steps as i128 * 1_505_149_978_319_906).unsigned_abs();
+        (steps < 0, (units / 1_000_000_000) as u64, (units % 1_000_000_000) as u64)
+    };
+    let random: Vec<i32> = (0..c.count / 10).map(|_| any_i32(&mut c.rng)).collect();
+    for steps in (-1000..=1000).chain(ENDS).chain(random) {
+        c.numbers("steps_to_db", &[steps as i64], |n| exact(n[0]), |n| library::steps_to_db(n[0] as i32));
+    }
+    for steps in -255..=255 {
+        c.numbers(
+            "steps_to_db, the nearest millionth",
+            &[steps],
+            |n| (steps_to_db(n[0] as i32) * 1_000_000.0).round() as i64,
+            |n| {
+                let (minus, millionths, rest) = library::steps_to_db(n[0] as i32);
+                let nearest = (millionths + (rest >= 500_000_000) as u64) as i64;
+                if minus {
+                    -nearest
+                } else {
+                    nearest
+                }
+            },
+        );
     }
 }
 

@@ -5,7 +5,7 @@ use native.Mathlib.Omega.{arith}
 use borrow.Author.Needs.{needs}
 use lib.ListN.{take}
 use Rattle.frame.specs.Tail.{endsWithId3v1}
-use Rattle.ape_write.proofs.Cutting.{cut-block, cut-plain}
+use Rattle.ape_write.proofs.Cutting.{audio-block, audio-plain, block-long}
 use Rattle.ape_write.proofs.cut_audio.Statement.{statement}
 use Rattle.ape_write.proofs.cut_audio.Tie as tie
 
@@ -17,13 +17,13 @@ tested c t e =
     ap (λ (n : ℕ). endsWithId3v1 (take n (g .file .now))) (sym z) ∙ sym (c .ends-with-id3v1 .ensures) ∙ e
 
 sub-front : tie.Need-sub-front
-sub-front c = let b = c .before .before .before .before in omega (arith, cut-block (b .args .file .now) (b .args .end) (b .pre) (tested (c .before) true (c .if1 .taken)) .0)
+sub-front c = let b = c .before .before .before .before in omega (arith, block-long (b .args .file .now) (b .args .end) (b .pre) (tested (c .before) true (c .if1 .taken)))
 
 returns : tie.Need-returns
-returns c = let b = c .before .before .before .before in cut-block (b .args .file .now) (b .args .end) (b .pre) (tested (c .before) true (c .if1 .taken)) .1
+returns c = let g = c .before .before .before .before .args in audio-block (g .file .now) (g .end) (tested (c .before) true (c .if1 .taken))
 
 returns-2 : tie.Need-returns-2
-returns-2 c = let b = c .before .before .before .before in cut-plain (b .args .file .now) (b .args .end) (b .pre) (tested (c .before) false (c .if1 .left))
+returns-2 c = let g = c .before .before .before .before .args in audio-plain (g .file .now) (g .end) (tested (c .before) false (c .if1 .left))
 
 pub cut-audio-spec : {M : Type 1} → statement M
 cut-audio-spec =

@@ -9,7 +9,7 @@ use Rattle.frame.proofs.Tails.{start-within}
 use Rattle.ape.specs.Tag.{findFooter}
 use Rattle.ape.specs.declared.Footer.the-variants.{At}
 use Rattle.ape.proofs.Files.{footer-within}
-use Rattle.ape_write.proofs.Cutting.{split-none, split-unstarted, split-rest, split-last}
+use Rattle.ape_write.proofs.Cutting.{cut-none, cut-unstarted, cut-rest, cut-last}
 use Rattle.ape_write.proofs.split_ape_tag.Statement.{statement}
 use Rattle.ape_write.proofs.split_ape_tag.Tie as tie
 
@@ -27,25 +27,25 @@ inside c =
     (omega (arith, start-within s f (c .before .s .given .0 .0) (begun c)), footer-within s f (here (c .before .before .before .before)))
 
 returns : tie.Need-returns
-returns c = rw (split-none (c .before .before .before .before .before .args .file .now) (sym (c .before .before .before .find-footer .ensures) ∙ c .before .enum-told .given .1)) (c .cut-audio .ensures)
+returns c = c .cut-audio .ensures ∙ cut-none (c .before .before .before .before .before .args .file .now) (sym (c .before .before .before .find-footer .ensures) ∙ c .before .enum-told .given .1)
 
 returns-2 : tie.Need-returns-2
 returns-2 c =
     let k = c .before .before .before .before in
     let s = k .before .before .before .before .before .args .file .now in
-    rw (split-unstarted s (k .before .found .given .0 .0) (here k) (sym (c .before .before .before .ape-tag-start .ensures) ∙ c .before .enum-told2 .given .1)) (c .cut-audio2 .ensures)
+    c .cut-audio2 .ensures ∙ cut-unstarted s (k .before .found .given .0 .0) (here k) (sym (c .before .before .before .ape-tag-start .ensures) ∙ c .before .enum-told2 .given .1)
 
 returns-3 : tie.Need-returns-3
 returns-3 c =
     let k = c .before in
     let s = k .before .before .before .before .before .before .before .before .before .args .file .now in
-    split-rest s (k .before .before .before .before .before .found .given .0 .0) (here (k .before .before .before .before)) (k .before .s .given .0 .0) (begun k) (inside k .0) (c .if1 .taken)
+    cut-rest s (k .before .before .before .before .before .found .given .0 .0) (here (k .before .before .before .before)) (k .before .s .given .0 .0) (begun k) (c .if1 .taken)
 
 returns-4 : tie.Need-returns-4
 returns-4 c =
     let k = c .before .before in
     let s = k .before .before .before .before .before .before .before .before .before .args .file .now in
-    rw (split-last s (k .before .before .before .before .before .found .given .0 .0) (here (k .before .before .before .before)) (k .before .s .given .0 .0) (begun k) (c .before .if1 .left)) (c .cut-audio3 .ensures)
+    c .cut-audio3 .ensures ∙ cut-last s (k .before .before .before .before .before .found .given .0 .0) (here (k .before .before .before .before)) (k .before .s .given .0 .0) (begun k) (c .before .if1 .left)
 
 pub split-ape-tag-spec : {M : Type 1} → statement M
 split-ape-tag-spec =

@@ -11,22 +11,17 @@ use Rattle.lists.specs.Choice.{provided, isSome}
 use Rattle.lists.specs.Write.{part}
 use Rattle.frame.specs.Tail.{tagStart}
 use Rattle.frame.specs.declared.TagStart.the-variants.{At as StartAt}
-use Rattle.items.specs.Items.{parse, itemsIn}
+use Rattle.items.specs.Items.{parse}
 use Rattle.ape.specs.Tag.{findFooter, versionAt, sizeAt, countAt, areaAt}
 use Rattle.ape.specs.declared.Footer.the-variants.{At}
 use Rattle.ape.proofs.Files.{footer-within, area-part}
-use Rattle.calls.specs.Gate.{allValid, passesGate, itemsOf}
-use Rattle.edit.specs.Gate.{Passed}
-use Rattle.edit.proofs.Gates.{start-size, gate-none, other-version, no-footer-counted, no-start, many-items, many-bytes, gated, gated-items}
+use Rattle.calls.specs.Gate.{allValid}
+use Rattle.edit.proofs.Gates.{start-size, gate-empty, other-version, no-footer-counted, no-start, many-items, many-bytes, bad-items, good-items}
 use Rattle.edit.proofs.gate.Statement.{statement}
 use Rattle.edit.proofs.gate.Tie as tie
 
 returns : tie.Need-returns
-unfolding parse
-returns c =
-    let s = c .before .before .before .before .args .file .now in
-    let (p, i) = gate-none s (sym (c .before .before .find-footer .ensures) ∙ c .enum-told .given .1) in
-    record { passes = p; order = omega arith; within = omega arith; good = refl; items = sym i; few = omega arith; short = omega arith }
+returns c = gate-empty (c .before .before .before .before .args .file .now) (sym (c .before .before .find-footer .ensures) ∙ c .enum-told .given .1)
 
 -- the footer that was found
 here : (c : tie.After-known-told) → findFooter (c .before .before .before .before .before .args .file .now) ≡ At (c .before .found .given .0 .0)
@@ -120,7 +115,7 @@ returns-7 c =
     let b = l .before .before .before in
     let e = b .before .before .before in
     let k = e .before .before .before .before in
-    gated (k .before .before .before .before .before .args .file .now) (k .before .found .given .0 .0) (here k) (version (e .before .before)) (counted e) (b .enum-told2 .given .0 .0) (begun b) (few (l .before)) (short l .0) false
+    bad-items (k .before .before .before .before .before .args .file .now) (k .before .found .given .0 .0) (here k) (version (e .before .before)) (counted e) (b .enum-told2 .given .0 .0) (begun b) (few (l .before)) (short l .0)
     (clean p false (not-true (p .is-clean .result) (c .if5 .taken)))
 
 returns-8 : tie.Need-returns-8
@@ -132,21 +127,10 @@ returns-8 c =
     let k = e .before .before .before .before in
     let s = k .before .before .before .before .before .args .file .now in
     let f = k .before .found .given .0 .0 in
-    let n = e .before .read-u32-le2 .result in
-    let m = l .before .before .read-u32-le3 in
     let x = clean p true (not-false (p .is-clean .result) (c .if5 .left)) in
-    let (g, i) = gated-items s f (here k) (version (e .before .before)) (counted e) (b .enum-told2 .given .0 .0) (begun b) (few (l .before)) (short l .0) x in
-    let same : part (f + 32 - n) f s ≡ areaAt s f = area p in
-    let z : n ≡ sizeAt s f = e .before .read-u32-le2 .ensures in
-    record {
-      passes = gated s f (here k) (version (e .before .before)) (counted e) (b .enum-told2 .given .0 .0) (begun b) (few (l .before)) (short l .0) true x;
-      order = omega (arith, counted e, z);
-      within = omega (arith, inside k);
-      good = ap (λ (l : List ℕ). isSome (parse (m .result) l)) same ∙ ap (λ (i : ℕ). isSome (parse i (areaAt s f))) (m .ensures) ∙ g;
-      items = ap (itemsIn (m .result)) same ∙ ap (λ (i : ℕ). itemsIn i (areaAt s f)) (m .ensures) ∙ i;
-      few = omega (arith, l .before .if3 .left);
-      short = omega (arith, short l, z);
-    }
+    let size : e .before .read-u32-le2 .result ≡ sizeAt s f = e .before .read-u32-le2 .ensures in
+    let count : l .before .before .read-u32-le3 .result ≡ countAt s f = l .before .before .read-u32-le3 .ensures in
+    rw (size, count) (good-items s f (here k) (version (e .before .before)) (counted e) (b .enum-told2 .given .0 .0) (begun b) (few (l .before)) (short l .0) x)
 
 pub gate-spec : {M : Type 1} → statement M
 gate-spec =

@@ -1,6 +1,6 @@
 use native.Mathlib.Omega.{arith}
-use Rattle.list.proofs.read_rest.Statement.{statement}
-use Rattle.list.proofs.read_rest.Tie as tie
+use Rattle.listing_input.proofs.read_rest.Statement.{statement}
+use Rattle.listing_input.proofs.read_rest.Tie as tie
 
 -- Nothing has to hold from turn to turn.
 abbrev Inv-loop : tie.InvT-loop

@@ -3,8 +3,8 @@ use native.Mathlib.Omega.{arith}
 use borrow.Author.Needs.{needs}
 use lib.ListN.{length-append}
 use lib.Seq.{length-take-le}
-use Rattle.list.proofs.main.Statement.{statement}
-use Rattle.list.proofs.main.Tie as tie
+use Rattle.listing_input.proofs.list_input.Statement.{statement}
+use Rattle.listing_input.proofs.list_input.Tie as tie
 
 -- the text stands at the front of the array
 array-share-prefix-text : tie.Need-array-share-prefix-text
@@ -13,8 +13,8 @@ array-share-prefix-text c = rw (c .list-tag .ensures .0, c .list-tag .ensures .1
 slice-aggregate-write-all : tie.Need-slice-aggregate-write-all
 slice-aggregate-write-all c = sym (length-take-le _ _ (array-share-prefix-text (c .before)))
 
-pub main-spec : {M : Type 1} → statement M
-main-spec =
+pub list-input-spec : {M : Type 1} → statement M
+list-input-spec =
     tie.close
     (tie.spec
     (λ c. search needs)
