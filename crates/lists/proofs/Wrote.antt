@@ -5,8 +5,8 @@ use Prim.Native.Nat.{ℕ, _+_, _-_, _≤_}
 use native.Mathlib.Nat.{add-assoc, zero-add, add-zero}
 use native.Mathlib.Omega.{arith}
 use lib.ListN.{length, take, drop, length-append, length-drop, take-append-drop, drop-of-length-le}
-use lib.Seq.{take-at, take-all, take-append-le, take-take, drop-at, drop-drop, drop-append-add, length-take-le}
-use Rattle.lists.specs.Write.{over, splice}
+use lib.Seq.{take-add, take-at, take-all, take-append-le, take-take, drop-at, drop-drop, drop-append-add, length-take-le}
+use Rattle.lists.specs.Write.{over, splice, part}
 
 -- xs is out with w written into it from at to k. A record, so that antt finds the lists at each use
 pub record Wrote (out : List ℕ) (at : ℕ) (w : List ℕ) (k : ℕ) (xs : List ℕ) : Type 0 where
@@ -75,3 +75,23 @@ module _ (out : List ℕ) (at : ℕ) where
 pub into-rest : {out xs w : List ℕ} {k : ℕ} → Wrote out 0 w k xs → (p ys : List ℕ) → ys ≡ over p (take (length xs - k) (drop k xs))
     → Wrote out 0 (w ++ p) (k + length p) (take k xs ++ (ys ++ drop (length xs - k) (drop k xs)))
 into-rest {out} {xs} {w} {k} x p ys e = next x p (refl, home xs k p ys e)
+
+-- ---- a list written part by part
+
+module _ (s : List ℕ) (i j : ℕ) (order : i ≤ j) where
+  -- what stands before i, and then what stands before j
+  pub take-part : take i s ++ part i j s ≡ take j s
+  take-part =
+      let e : i + (j - i) ≡ j = omega (arith, order) in
+      sym (take-add i (j - i) s) ∙ ap (λ (n : ℕ). take n s) e
+
+  -- s was written up to i, and now up to j
+  pub next-part : {out xs ys : List ℕ} {at k r : ℕ} → Wrote out at (take i s) k xs → (r ≡ k + length (part i j s)) × (ys ≡ splice xs k (part i j s))
+      → Wrote out at (take j s) r ys
+  next-part {out} {xs} {ys} {at} {k} {r} x y =
+      let w : Wrote out at (take i s ++ part i j s) r ys = next x (part i j s) y in
+      record { room = w .room; ends = w .ends ∙ ap (λ (l : List ℕ). at + length l) take-part; is = w .is ∙ ap (splice out at) take-part }
+
+-- what is as long as what it is written over takes its place
+pub splice-all : (b w : List ℕ) → length b ≡ length w → splice b 0 w ≡ w
+splice-all b w e = rw (zero-add, drop-of-length-le b {i = length w} (omega (arith, e))) (append-nil w)
