@@ -1,8 +1,9 @@
 use mathlib.Core.Path.{_≡_, refl, sym, ap, _∙_}
-use Prim.Native.Nat.{ℕ, _≤_, _+_}
+use Prim.Native.Nat.{ℕ, _≤_, _+_, _-_}
 use native.Mathlib.Omega.{arith}
 use borrow.Author.Needs.{needs}
 use lib.ListN.{length}
+use Rattle.decimal.specs.Writing.{decimal, places}
 use Rattle.decimal.proofs.Places.{length-places}
 use Rattle.decimal.proofs.put_decimal.Statement.{statement}
 use Rattle.decimal.proofs.put_decimal.Tie as tie
@@ -12,7 +13,8 @@ returns c =
     let p = c .before .before in
     let w = p .before .before in
     let g = w .before .before .args in
-    rw (w .width .ensures .1) (p .put-places .ensures .0, p .put-places .ensures .1, omega (arith, w .width .ensures .0, p .put-places .ensures .0, length-places (w .width .result) (g .n)))
+    let digits : decimal (g .least) (g .most - g .least) (g .n) ≡ places (w .width .result) (g .n) = w .width .ensures .1 in
+    rw digits (p .put-places .ensures .0, p .put-places .ensures .1, omega (arith, w .width .ensures .0, p .put-places .ensures .0, length-places (w .width .result) (g .n)))
 
 pub put-decimal-spec : {M : Type 1} → statement M
 put-decimal-spec =
