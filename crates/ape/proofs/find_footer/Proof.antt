@@ -13,32 +13,38 @@ use Rattle.ape.specs.Tag.{findFooter}
 use Rattle.ape.proofs.find_footer.Statement.{statement}
 use Rattle.ape.proofs.find_footer.Tie as tie
 
+last : (c : tie.After-starts-with) → let s = c .before .before .before .before .args .file .now in c .starts-with .result ≡ startsWith preamble (drop (length s - 32) s)
+last c = c .starts-with .ensures
+
+earlier : (c : tie.After-starts-with2) → let s = c .before .before .before .before .before .before .before .before .args .file .now in c .starts-with2 .result ≡ startsWith preamble (drop (length s - 160) s)
+earlier c = c .starts-with2 .ensures
+
 returns : tie.Need-returns
 unfolding findFooter standsAt
 returns c = let n : length (c .before .before .args .file .now) < 160 = omega arith in rw (lt-leb _ _ (c .if1 .taken), lt-leb _ _ n)
 
 returns-2 : tie.Need-returns-2
 unfolding findFooter standsAt
-returns-2 c = rw (le-leb _ _ (c .before .before .before .if1 .left), ← c .before .starts-with .ensures, c .if2 .taken)
+returns-2 c = rw (le-leb _ _ (c .before .before .before .if1 .left), ← last (c .before), c .if2 .taken)
 
 returns-3 : tie.Need-returns-3
 unfolding findFooter standsAt
-returns-3 c = rw (le-leb _ _ (c .before .before .before .before .if1 .left), ← c .before .before .starts-with .ensures, c .before .if2 .left, lt-leb _ _ (c .if3 .taken))
+returns-3 c = rw (le-leb _ _ (c .before .before .before .before .if1 .left), ← last (c .before .before), c .before .if2 .left, lt-leb _ _ (c .if3 .taken))
 
 returns-4 : tie.Need-returns-4
 unfolding findFooter standsAt
 returns-4 c =
-    rw (le-leb _ _ (c .before .before .before .before .before .before .before .if1 .left), ← c .before .before .before .before .before .starts-with .ensures, c .before .before .before .before .if2 .left, le-leb _ _ (c .before .before .before .if3 .left), ← c .before .starts-with2 .ensures, not-true (c .before .starts-with2 .result) (c .if4 .taken))
+    rw (le-leb _ _ (c .before .before .before .before .before .before .before .if1 .left), ← last (c .before .before .before .before .before), c .before .before .before .before .if2 .left, le-leb _ _ (c .before .before .before .if3 .left), ← earlier (c .before), not-true (c .before .starts-with2 .result) (c .if4 .taken))
 
 returns-5 : tie.Need-returns-5
 unfolding findFooter standsAt
 returns-5 c =
     rw (
       le-leb _ _ (c .before .before .before .before .before .before .before .before .before .if1 .left),
-      ← c .before .before .before .before .before .before .before .starts-with .ensures,
+      ← last (c .before .before .before .before .before .before .before),
       c .before .before .before .before .before .before .if2 .left,
       le-leb _ _ (c .before .before .before .before .before .if3 .left),
-      ← c .before .before .before .starts-with2 .ensures,
+      ← earlier (c .before .before .before),
       not-false (c .before .before .before .starts-with2 .result) (c .before .before .if4 .left),
       ← c .before .ends-with-id3v1 .ensures,
       not-true (c .before .ends-with-id3v1 .result) (c .if5 .taken),
@@ -49,10 +55,10 @@ unfolding findFooter standsAt
 returns-6 c =
     rw (
       le-leb _ _ (c .before .before .before .before .before .before .before .before .before .if1 .left),
-      ← c .before .before .before .before .before .before .before .starts-with .ensures,
+      ← last (c .before .before .before .before .before .before .before),
       c .before .before .before .before .before .before .if2 .left,
       le-leb _ _ (c .before .before .before .before .before .if3 .left),
-      ← c .before .before .before .starts-with2 .ensures,
+      ← earlier (c .before .before .before),
       not-false (c .before .before .before .starts-with2 .result) (c .before .before .if4 .left),
       ← c .before .ends-with-id3v1 .ensures,
       not-false (c .before .ends-with-id3v1 .result) (c .if5 .left),

@@ -3,6 +3,7 @@ use mathlib.Core.Path.{_≡_, sym, ap, _∙_}
 use Rattle.lists.proofs.Wrote.{rest}
 use Rattle.number.specs.Reading.{isMinus, unsigned}
 use Rattle.decibels.specs.Gain.{millionths, parseGain, countIs}
+use Rattle.decibels.specs.declared.GainField.the-variants.{Value}
 use Rattle.decibels.proofs.Texts.{count-is, no-count}
 use Rattle.decibels.proofs.parse_gain.Statement.{statement}
 use Rattle.decibels.proofs.parse_gain.Tie as tie
@@ -25,7 +26,8 @@ returns-2 c =
     let m = l .before in
     let s = m .before .before .args .text .now in
     let t = rest s (l .sign-len .result) ∙ l .sign-len .ensures .1 in
-    rw (m .is-minus .ensures, count-is (millionths (unsigned s)) (n .n .given .0 .0) (sym (n .n .given .1) ∙ p .parse-millionths .ensures ∙ ap (λ u. countIs (millionths u)) t))
+    let e = count-is (millionths (unsigned s)) (n .n .given .0 .0) (sym (n .n .given .1) ∙ p .parse-millionths .ensures ∙ ap (λ u. countIs (millionths u)) t) in
+    rw e (ap (λ x. Value (record { 0 = x; 1 = n .n .given .0 .0; 2 = 0 })) (m .is-minus .ensures))
 
 pub parse-gain-spec : {M : Type 1} → statement M
 parse-gain-spec =

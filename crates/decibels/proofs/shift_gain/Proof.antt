@@ -5,7 +5,7 @@ use mir.Syntax.{w32}
 use mir.Val.{SFits}
 use mir.Facts.{toZ-ofZ}
 use lib.IntN.{ℤ, _-ℤ_}
-use Rattle.decibels.specs.Gain.{amount, exact, stepUnits, parseGain, shiftGain, remaining}
+use Rattle.decibels.specs.Gain.{amount, exact, stepUnits, parseGain, shiftGain, remaining, nearest}
 use Rattle.decibels.proofs.Amounts.{steps-exact}
 use Rattle.decibels.proofs.Texts.{gain-is, no-gain, gain-below}
 use Rattle.decibels.proofs.shift_gain.Statement.{statement}
@@ -40,7 +40,8 @@ returns-2 c =
     let z = g .steps .0 in
     let e : exact (t .steps-to-db .result) ≡ stepUnits z = ap exact (t .steps-to-db .ensures .0) ∙ steps-exact z in
     let left : u .subtract .result ≡ remaining z a = u .subtract .ensures .0 ∙ ap (λ (y : ℤ). amount (a .0) (exact a -ℤ y)) e in
-    rw (gain-is (parseGain (g .text .now)) a (sym (n .g .given .1) ∙ p .parse-gain .ensures), c .format-gain .ensures, r .rounded .ensures .0, left)
+    let whole : r .rounded .result ≡ nearest (remaining z a) = r .rounded .ensures .0 ∙ ap nearest left in
+    rw (gain-is (parseGain (g .text .now)) a (sym (n .g .given .1) ∙ p .parse-gain .ensures), c .format-gain .ensures, whole)
 
 pub shift-gain-spec : {M : Type 1} → statement M
 shift-gain-spec =

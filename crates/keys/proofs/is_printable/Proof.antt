@@ -20,19 +20,19 @@ returns : tie.Need-returns Inv-loop μ-loop
 returns c =
     let l = c .before .before .before in
     let s = l .before .args .s .now in
-    sym (l .loop .inv ∙ rw (all-step printable s (l .loop .i) (omega arith), lt-leb _ _ (c .if1 .taken)))
+    sym (l .loop .inv ∙ rw (all-step printable s (l .loop .i) (omega arith), lt-leb 32 _ (c .if1 .taken)))
 
 returns-2 : tie.Need-returns-2 Inv-loop μ-loop
 returns-2 c =
     let l = c .before .before .before .before .before in
     let s = l .before .args .s .now in
-    sym (l .loop .inv ∙ rw (all-step printable s (l .loop .i) (omega arith), le-leb _ _ (c .before .before .if1 .left), lt-leb _ _ (c .if2 .taken)))
+    sym (l .loop .inv ∙ rw (all-step printable s (l .loop .i) (omega arith), le-leb 32 _ (c .before .before .if1 .left), lt-leb _ 126 (c .if2 .taken)))
 
 loop-again : tie.Need-loop-again Inv-loop μ-loop
 loop-again c =
     let l = c .before .before .before .before .before in
     let s = l .before .args .s .now in
-    l .loop .inv ∙ rw (all-step printable s (l .loop .i) (omega arith), le-leb _ _ (c .before .before .if1 .left), le-leb _ _ (c .if2 .left))
+    l .loop .inv ∙ rw (all-step printable s (l .loop .i) (omega arith), le-leb 32 _ (c .before .before .if1 .left), le-leb _ 126 (c .if2 .left))
 
 returns-3 : tie.Need-returns-3 Inv-loop μ-loop
 returns-3 c =

@@ -4,7 +4,7 @@ use Prim.Native.Nat.{_≤_, _+_, _-_}
 use native.Mathlib.Numerals.{add-one}
 use native.Mathlib.Omega.{arith}
 use borrow.Author.Needs.{needs}
-use lib.ListN.{length, length-set}
+use lib.ListN.{length, getD, length-set}
 use lib.Seq.{paste, paste-zero, paste-suc, take-length}
 use Rattle.keys.specs.Keys.{upperAll}
 use Rattle.keys.proofs.Keys.{length-upper, getD-upper}
@@ -24,10 +24,11 @@ loop-again : tie.Need-loop-again Inv-loop μ-loop
 loop-again c =
     let l = c .before .before .before in
     let g = l .before .before .before .args in
-    let n = length-upper (g .src .now) in (
+    let n = length-upper (g .src .now) in
+    let letter : c .upper-case .result ≡ getD (upperAll (g .src .now)) (l .loop .i) 0 = c .upper-case .ensures ∙ sym (getD-upper (g .src .now) (l .loop .i) (omega arith)) in (
       omega arith,
       simp length-set (l .loop .inv .1),
-      rw (l .loop .inv .2, add-one, c .upper-case .ensures, ← getD-upper (g .src .now) (l .loop .i) (omega arith))
+      rw (l .loop .inv .2, add-one, letter)
           (paste-suc (g .out .now) (g .at) (upperAll (g .src .now)) (l .loop .i) 0 (omega arith) (omega arith)),
     )
 

@@ -4,7 +4,7 @@ use Prim.Native.Nat.{_≤_, _-_}
 use native.Mathlib.Omega.{arith}
 use borrow.Author.Needs.{needs}
 use borrow.Author.Tests.{eq-eqb, ne-eqb}
-use lib.ListN.{length, drop, drop-of-length-le}
+use lib.ListN.{length, drop, getD, drop-of-length-le}
 use Rattle.keys.specs.Keys.{upper, sameKey}
 use Rattle.keys.proofs.Keys.{key-unequal, key-step, key-nil}
 use Rattle.keys.proofs.same_key.Statement.{statement}
@@ -23,7 +23,7 @@ returns-2 : tie.Need-returns-2 Inv-loop μ-loop
 returns-2 c =
     let l = c .before .before .before .before .before .before in
     let g = l .before .before .before .before .args in
-    sym (l .loop .inv .2 ∙ rw (key-step (g .a .now) (g .b .now) (l .loop .i) (omega arith) (omega arith), ne-eqb _ _ (λ e. c .if2 .taken (c .before .before .before .upper-case .ensures ∙ e ∙ sym (c .before .upper-case2 .ensures)))))
+    sym (l .loop .inv .2 ∙ rw (key-step (g .a .now) (g .b .now) (l .loop .i) (omega arith) (omega arith), ne-eqb (upper (getD (g .a .now) (l .loop .i) 0)) (upper (getD (g .b .now) (l .loop .i) 0)) (λ e. c .if2 .taken (c .before .before .before .upper-case .ensures ∙ e ∙ sym (c .before .upper-case2 .ensures)))))
 
 loop-again : tie.Need-loop-again Inv-loop μ-loop
 loop-again c =
@@ -31,7 +31,7 @@ loop-again c =
     let g = l .before .before .before .before .args in (
       l .loop .inv .0,
       omega arith,
-      l .loop .inv .2 ∙ rw (key-step (g .a .now) (g .b .now) (l .loop .i) (omega arith) (omega arith), eq-eqb _ _ (sym (c .before .before .before .upper-case .ensures) ∙ c .if2 .left ∙ c .before .upper-case2 .ensures)),
+      l .loop .inv .2 ∙ rw (key-step (g .a .now) (g .b .now) (l .loop .i) (omega arith) (omega arith), eq-eqb (upper (getD (g .a .now) (l .loop .i) 0)) (upper (getD (g .b .now) (l .loop .i) 0)) (sym (c .before .before .before .upper-case .ensures) ∙ c .if2 .left ∙ c .before .upper-case2 .ensures)),
     )
 
 returns-3 : tie.Need-returns-3 Inv-loop μ-loop

@@ -3,7 +3,7 @@ use mathlib.Core.Option.{some}
 use mathlib.Core.Path.{_≡_, sym, ap, _∙_}
 use Rattle.keys.specs.Keys.{whichKey}
 use Rattle.keys.proofs.Keys.{which-some, which-none}
-use Rattle.values.specs.Stored.{kindOf}
+use Rattle.values.specs.Stored.{isRange, isGain, kindOf}
 use Rattle.values.proofs.kind_of.Statement.{statement}
 use Rattle.values.proofs.kind_of.Tie as tie
 
@@ -13,6 +13,13 @@ found-key c =
     let i = c .before in
     let w = i .before .before in
     which-some (whichKey (w .before .before .args .key .now)) (i .i .given .0 .0) (sym (i .i .given .1) ∙ w .which-key .ensures)
+
+-- the two tests
+range : (c : tie.After-is-either) → c .is-either .result ≡ isRange (c .before .before .i .given .0 .0)
+range c = c .is-either .ensures
+
+gain : (c : tie.After-is-either2) → c .is-either2 .result ≡ isGain (c .before .before .before .before .i .given .0 .0)
+gain c = c .is-either2 .ensures
 
 returns : tie.Need-returns
 unfolding kindOf
@@ -24,7 +31,7 @@ returns-2 : tie.Need-returns-2
 unfolding kindOf
 returns-2 c =
     let r = c .before in
-    rw (found-key (r .before), ← r .is-either .ensures, c .if1 .taken)
+    rw (found-key (r .before), ← range r, c .if1 .taken)
 
 returns-3 : tie.Need-returns-3
 unfolding kindOf
@@ -32,7 +39,7 @@ returns-3 c =
     let n = c .before in
     let t = n .before in
     let r = t .before in
-    rw (found-key (r .before), ← r .is-either .ensures, t .if1 .left, ← n .is-either2 .ensures, c .if2 .taken)
+    rw (found-key (r .before), ← range r, t .if1 .left, ← gain n, c .if2 .taken)
 
 returns-4 : tie.Need-returns-4
 unfolding kindOf
@@ -40,7 +47,7 @@ returns-4 c =
     let n = c .before in
     let t = n .before in
     let r = t .before in
-    rw (found-key (r .before), ← r .is-either .ensures, t .if1 .left, ← n .is-either2 .ensures, c .if2 .left)
+    rw (found-key (r .before), ← range r, t .if1 .left, ← gain n, c .if2 .left)
 
 pub kind-of-spec : {M : Type 1} → statement M
 kind-of-spec =
