@@ -10,8 +10,9 @@ use Rattle.c_ape.specs.ApeFace.{writtenFace}
 
 -- a call that answered and wrote as planned, and whose answer was put into the lent number, is the face of the plan
 pub face-of : {r written' : ℕ} {out' : List ℕ} {w : Written} (plan : Plan (List ℕ)) (written : ℕ) (out : List ℕ)
-    → (w ≡ writtenAnswer plan) × (out' ≡ over (writtenBytes plan) out)
+    → w ≡ writtenAnswer plan
+    → out' ≡ over (writtenBytes plan) out
     → (r ≡ writtenFace w written .reply) × (written' ≡ writtenFace w written .written)
     → (r ≡ writtenFace (writtenAnswer plan) written .reply) × (written' ≡ writtenFace (writtenAnswer plan) written .written)
     × (out' ≡ over (writtenBytes plan) out)
-face-of plan written out done told = rw (← done .0) (told .0, told .1, done .1)
+face-of plan written out answered wrote told = rw (← answered) (told .0, told .1, wrote)
