@@ -69,6 +69,19 @@ pub extern "C" fn zib_read_ape_tag(
     }
 }
 
+// The reply to a call that writes, and how many bytes it wrote into the lent number.
+pub fn put_written(w: Written, written: &mut usize) -> u32
+    ensures { λ r. ⌜ (let face = writtenFace w (now (written .entry)) in (r ≡ face .reply) × (now (written .exit) ≡ face .written)) ⌝ }
+{
+    match w {
+        Written::Done(n) => {
+            *written = n;
+            0
+        }
+        Written::Refused(r) => replies::number(r),
+    }
+}
+
 // The tag of the `count` items of `area`, written to the front of `out`, and its length into `written`. Refusals 12 and 5.
 #[no_mangle]
 pub extern "C" fn zib_serialize_ape_tag(
@@ -81,14 +94,7 @@ pub extern "C" fn zib_serialize_ape_tag(
         let face = writtenFace (writtenAnswer plan) (now (written .entry)) in
         (r ≡ face .reply) × (now (written .exit) ≡ face .written) × (now (out .exit) ≡ over (writtenBytes plan) (now (out .entry)))) ⌝ }
 {
-    let w = ape_write::serialize_ape_tag(area, count, out);
-    match w {
-        Written::Done(n) => {
-            *written = n;
-            0
-        }
-        Written::Refused(r) => replies::number(r),
-    }
+    put_written(ape_write::serialize_ape_tag(area, count, out), written)
 }
 
 // Where the file is cut: what precedes its tag ends at `front`, and what follows it stands between `from` and `to`. Without a tag, the
@@ -130,12 +136,5 @@ pub extern "C" fn zib_replace_ape_tag(
         let face = writtenFace (writtenAnswer plan) (now (written .entry)) in
         (r ≡ face .reply) × (now (written .exit) ≡ face .written) × (now (out .exit) ≡ over (writtenBytes plan) (now (out .entry)))) ⌝ }
 {
-    let w = ape_write::replace_ape_tag(file, area, count, out);
-    match w {
-        Written::Done(n) => {
-            *written = n;
-            0
-        }
-        Written::Refused(r) => replies::number(r),
-    }
+    put_written(ape_write::replace_ape_tag(file, area, count, out), written)
 }

@@ -7,7 +7,6 @@ ghost use Rattle.calls.specs.Calls.{setPlan, removePlan};
 ghost use Rattle.edit.specs.Gate.{gatePlan};
 ghost use Rattle.c_ape.specs.ApeFace.{writtenFace};
 ghost use Rattle.c_edit.specs.EditFace.{gateFace};
-use ape_write::Written;
 use edit::Editable;
 use replies::Refusal;
 
@@ -55,14 +54,7 @@ pub extern "C" fn zib_set_ape_item(
         let face = writtenFace (writtenAnswer plan) (now (written .entry)) in
         (r ≡ face .reply) × (now (written .exit) ≡ face .written) × (now (out .exit) ≡ over (writtenBytes plan) (now (out .entry)))) ⌝ }
 {
-    let w = edit::set_ape_item(file, key, value, out);
-    match w {
-        Written::Done(n) => {
-            *written = n;
-            0
-        }
-        Written::Refused(r) => replies::number(r),
-    }
+    c_ape::put_written(edit::set_ape_item(file, key, value, out), written)
 }
 
 // The file without the items with this key, written to the front of `out`, and its length into `written`. Refusals 1, 3, 8, 6 and 5.
@@ -77,12 +69,5 @@ pub extern "C" fn zib_remove_ape_item(
         let face = writtenFace (writtenAnswer plan) (now (written .entry)) in
         (r ≡ face .reply) × (now (written .exit) ≡ face .written) × (now (out .exit) ≡ over (writtenBytes plan) (now (out .entry)))) ⌝ }
 {
-    let w = edit::remove_ape_item(file, key, out);
-    match w {
-        Written::Done(n) => {
-            *written = n;
-            0
-        }
-        Written::Refused(r) => replies::number(r),
-    }
+    c_ape::put_written(edit::remove_ape_item(file, key, out), written)
 }
