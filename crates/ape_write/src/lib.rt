@@ -163,7 +163,7 @@ pub fn put_file(file: &[u8], cut: Cut, area: &[u8], count: usize, out: &mut [u8]
     let front = cut.front;
     let from = cut.from;
     let to = cut.to;
-    let a = lists::put_part(out, 0, file, 0, front);
+    let a = lists::put_long_part(out, 0, file, 0, front);
     let n = put_tag(&mut out[a..], area, count);
     let b = a + n;
     let m = lists::put_part(&mut out[b..], 0, file, from, to);

@@ -80,27 +80,28 @@ fn put_blocks(out: &mut [u8], at: usize, src: &[u8]) -> usize
     put(out, at + i, &src[i..])
 }
 
-// From how many bytes on `put_any` writes in blocks: below it, clearing the block costs more than it saves.
-const LARGE: usize = 65536;
-
-// Writes all of `src` into `out` from `at`, however long it is, and answers where it ends.
-fn put_any(out: &mut [u8], at: usize, src: &[u8]) -> usize
-    requires { ⌜ at + length (now src) ≤ length (now out) ⌝ }
-    ensures { λ r. ⌜ (r ≡ at + length (now (src .entry))) × (now (out .exit) ≡ splice (now (out .entry)) at (now (src .entry))) ⌝ }
-{
-    if src.len() < LARGE {
-        return put(out, at, src);
-    }
-    put_blocks(out, at, src)
-}
-
 // Writes the part of `src` between two places into `out` from `at`.
 pub fn put_part(out: &mut [u8], at: usize, src: &[u8], from: usize, to: usize) -> usize
     requires { ⌜ (from ≤ to) × (to ≤ length (now src)) × (at + (to - from) ≤ length (now out)) ⌝ }
     ensures { λ r. ⌜ (r ≡ at + length (part from to (now (src .entry))))
         × (now (out .exit) ≡ splice (now (out .entry)) at (part from to (now (src .entry)))) × (r ≡ at + (to - from)) ⌝ }
 {
-    put_any(out, at, &src[from..to])
+    put(out, at, &src[from..to])
+}
+
+// From how many bytes on a part is written in blocks: below it, clearing the block costs more than it saves.
+const LONG: usize = 65536;
+
+// The same for a part that may be long.
+pub fn put_long_part(out: &mut [u8], at: usize, src: &[u8], from: usize, to: usize) -> usize
+    requires { ⌜ (from ≤ to) × (to ≤ length (now src)) × (at + (to - from) ≤ length (now out)) ⌝ }
+    ensures { λ r. ⌜ (r ≡ at + length (part from to (now (src .entry))))
+        × (now (out .exit) ≡ splice (now (out .entry)) at (part from to (now (src .entry)))) × (r ≡ at + (to - from)) ⌝ }
+{
+    if to - from < LONG {
+        return put_part(out, at, src, from, to);
+    }
+    put_blocks(out, at, &src[from..to])
 }
 
 // Writes the four bytes of `x` into `out` from `at`, the least first.
