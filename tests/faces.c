@@ -1,4 +1,4 @@
-/* Each call of include/zibrunnos.h from C, once as it is done and once refused where it can be: document 01's examples. */
+/* Each call of include/zibrunnos.h from C as it is done, and many of them refused: document 01's examples. */
 #include "zibrunnos.h"
 #include <stdio.h>
 #include <string.h>

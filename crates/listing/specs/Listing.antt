@@ -5,6 +5,7 @@ use mathlib.Core.Option.{Option, none, some}
 use mathlib.Core.List.{List, [], _∷_, _++_}
 use lib.ListN.{length}
 use lib.Dec.{ltb, leb, eqb}
+use Rattle.replies.specs.Limits.{listingLimit}
 use Rattle.lists.specs.Bytes.{ascii}
 use Rattle.decimal.specs.Writing.{decimal}
 use Rattle.items.specs.Items.{Item}
@@ -45,10 +46,6 @@ unfoldable pub listed : Option (List Item) → List ℕ
 listed none = ascii "items=none" ++ (0x0A ∷ [])
 listed (some ts) = ((ascii "items=" ++ decimal 1 9 (length ts)) ++ (0x0A ∷ [])) ++ lines ts
 
--- the longest file that is listed
-abbrev pub listLimit : ℕ
-listLimit = 16384
-
 -- the text of a file
 unfoldable pub listing : List ℕ → List ℕ
-listing file = cond (leb (length file) listLimit) (listed (readTag file)) (ascii "refused=1" ++ (0x0A ∷ []))
+listing file = cond (leb (length file) listingLimit) (listed (readTag file)) (ascii "refused=1" ++ (0x0A ∷ []))

@@ -11,9 +11,6 @@ ghost use Rattle.listing.specs.Listing as L;
 use ape::TagRead;
 use items::Stepped;
 
-// The longest file that is listed.
-pub const LIST_LIMIT: usize = 16384;
-
 fn hex_digit(d: u8) -> u8
     requires { ⌜ d < 16 ⌝ }
     ensures { λ r. ⌜ r ≡ L.hexDigit d ⌝ }
@@ -159,7 +156,7 @@ fn list_in(file: &[u8], area: &mut [u8], text: &mut [u8; 147473]) -> usize
 pub fn list_tag(file: &[u8], text: &mut [u8; 147473]) -> usize
     ensures { λ r. ⌜ (r ≡ length (L.listing (now (file .entry)))) × (now (text .exit) ≡ over (L.listing (now (file .entry))) (now (text .entry))) ⌝ }
 {
-    if LIST_LIMIT < file.len() {
+    if replies::LISTING_LIMIT < file.len() {
         return lists::put(text, 0, b"refused=1\n");
     }
     if file.len() <= 1024 {

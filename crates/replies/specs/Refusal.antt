@@ -73,8 +73,3 @@ pub data Plan (A : Type 0) : Type 0 where
 abbrev pub planned : {A : Type 0} → Option Refusal → A → Plan A
 planned none a = yes a
 planned (some r) a = no r
-
--- the reply: 0, or the number of the refusal
-abbrev pub replyOf : {A : Type 0} → Plan A → ℕ
-replyOf (no r) = numberOf r
-replyOf (yes a) = 0

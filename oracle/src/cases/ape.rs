@@ -408,7 +408,7 @@ fn compare(c: &mut Compare) {
 fn limits(c: &mut Compare) {
     const LIMIT: usize = 16_777_216;
     let mut out = vec![FILL; LIMIT + 100];
-    let file = vec![0x55; LIMIT + 1];
+    let file: Vec<u8> = (0..=LIMIT).map(|i| (i % 251) as u8).collect();
     let tag = &small_tags()[1];
     let area = area_of(tag);
     c.inputs += 8;
@@ -424,6 +424,13 @@ fn limits(c: &mut Compare) {
     assert!(out.iter().all(|&b| b == FILL));
     assert_eq!(library::replace_ape_tag(&file[..LIMIT - 76], &area, 1, &mut out), Ok(LIMIT));
     assert!(out[..LIMIT] == reach::replace(&file[..LIMIT - 76], tag));
+    // The lengths about which a long part is copied in blocks, and whole blocks.
+    for n in [65_535, 65_536, 65_537, 81_919, 81_920, 81_921, 1 << 20] {
+        c.inputs += 1;
+        let want = reach::replace(&file[..n], tag);
+        assert_eq!(library::replace_ape_tag(&file[..n], &area, 1, &mut out), Ok(want.len()));
+        assert!(out[..want.len()] == want);
+    }
 }
 
 fn record(r: &mut Record) {
