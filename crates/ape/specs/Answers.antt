@@ -28,15 +28,18 @@ lentFits file = need FileTooLong (leb (length file) fileLimit)
 abbrev pub hasRoom : ℕ → ℕ → Bool
 hasRoom room n = leb n room && leb n fileLimit
 
+-- the same for these bytes, as a test
 abbrev pub roomFor : ℕ → List ℕ → Test
 roomFor room w = need NoRoom (hasRoom room (length w))
 
 -- ---- find_ape_footer
 
+-- the place of the footer, that there is none, or the refusal
 abbrev pub footerAnswer : Plan Footer → FooterFound
 footerAnswer (no r) = NotSearched r
 footerAnswer (yes f) = footed f Nowhere (λ n. At n)
 
+-- the search: refusal 1
 abbrev pub footerPlan : List ℕ → Plan Footer
 footerPlan file = planned (refusalOf (lentFits file ∷ [])) (findFooter file)
 
@@ -55,14 +58,17 @@ measuredAs room ts = cond (leb (length (areaBytes ts)) room) (MeasuredItems (len
 abbrev pub itemsPlan : ℕ → List Item → Plan (Option (List Item))
 itemsPlan room ts = planned (refusalOf (roomFor room (areaBytes ts) ∷ [])) (some ts)
 
+-- the reading: refusals 1 and 5
 unfoldable pub readPlan : List ℕ → ℕ → Plan (Option (List Item))
 readPlan file room = planned (refusalOf (lentFits file ∷ roomFor room (readArea (readTag file)) ∷ [])) (readTag file)
 
+-- that there is no tag, the count of its items and the length of their area, or the refusal
 abbrev pub readAnswer : Plan (Option (List Item)) → TagRead
 readAnswer (no r) = NotRead r
 readAnswer (yes none) = NoTag
 readAnswer (yes (some ts)) = Items (length ts) (length (areaBytes ts))
 
+-- what is written: nothing when refused
 abbrev pub readBytes : Plan (Option (List Item)) → List ℕ
 readBytes (no r) = []
 readBytes (yes t) = readArea t

@@ -59,13 +59,15 @@ abbrev pub started : {A : Type 0} → TagStart → A → (ℕ → A) → A
 started NoStart a g = a
 started (StartAt n) a g = g n
 
--- the numbers of the footer that stands at f
+-- the version that the footer at f holds
 abbrev pub versionAt : List ℕ → ℕ → ℕ
 versionAt s f = readU32 s (f + 8)
 
+-- the size that the footer at f holds
 abbrev pub sizeAt : List ℕ → ℕ → ℕ
 sizeAt s f = readU32 s (f + 12)
 
+-- the count of items that the footer at f holds
 abbrev pub countAt : List ℕ → ℕ → ℕ
 countAt s f = readU32 s (f + 16)
 

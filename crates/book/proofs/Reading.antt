@@ -1,4 +1,4 @@
--- Law A: footer search, split, gate and reading of a sound book's file give back the book.
+-- Footer search, split, gate and reading of a sound book's file give back the book.
 use Prim.Native.Nat.{ℕ, _+_, _-_, _≤_, _<_}
 use native.Mathlib.Omega.{arith}
 use mathlib.Core.Path.{_≡_, refl, sym, ap, _∙_}

@@ -1,4 +1,4 @@
--- Law B: what replacement wrote is read back, and a settled file is exactly the file of a sound book.
+-- What replacement wrote is read back, and a settled file is exactly the file of a sound book.
 use Prim.Native.Nat.{ℕ, _+_, _-_, _≤_, _<_}
 use native.Mathlib.Omega.{arith}
 use mathlib.Core.Path.{_≡_, refl, sym, ap, _∙_}

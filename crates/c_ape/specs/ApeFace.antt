@@ -15,6 +15,7 @@ pub record FooterFace : Type 0 where
   pub there : ℕ
   pub footer : ℕ
 
+-- from the answer of the search, and what the lent numbers held
 abbrev pub footerFace : FooterFound → ℕ → ℕ → FooterFace
 footerFace (At f) there footer = record { reply = 0; there = 1; footer = f }
 footerFace Nowhere there footer = record { reply = 0; there = 0; footer = 0 }
@@ -27,6 +28,7 @@ pub record ReadFace : Type 0 where
   pub count : ℕ
   pub written : ℕ
 
+-- from the answer of the reading, and what the lent numbers held
 abbrev pub readFace : TagRead → ℕ → ℕ → ℕ → ReadFace
 readFace NoTag there count written = record { reply = 0; there = 0; count = 0; written = 0 }
 readFace (Items n m) there count written = record { reply = 0; there = 1; count = n; written = m }
@@ -37,6 +39,7 @@ pub record WrittenFace : Type 0 where
   pub reply : ℕ
   pub written : ℕ
 
+-- from the answer of the call, and what the lent number held
 abbrev pub writtenFace : Written → ℕ → WrittenFace
 writtenFace (Done n) old = record { reply = 0; written = n }
 writtenFace (Refused r) old = record { reply = numberOf r; written = old }
@@ -48,6 +51,7 @@ pub record SplitFace : Type 0 where
   pub from : ℕ
   pub to : ℕ
 
+-- from the cut or the refusal, and what the lent numbers held
 abbrev pub splitFace : Plan Cut → ℕ → ℕ → ℕ → SplitFace
 splitFace (no r) front from to = record { reply = numberOf r; front = front; from = from; to = to }
 splitFace (yes c) front from to = record { reply = 0; front = c .front; from = c .from; to = c .to }

@@ -10,6 +10,7 @@ pub record GateFace : Type 0 where
   pub end : ℕ
   pub count : ℕ
 
+-- from the place of the items or the refusal, and what the lent numbers held
 abbrev pub gateFace : Plan AreaPlace → ℕ → ℕ → ℕ → GateFace
 gateFace (no r) start end count = record { reply = numberOf r; start = start; end = end; count = count }
 gateFace (yes p) start end count = record { reply = 0; start = p .start; end = p .end; count = p .count }

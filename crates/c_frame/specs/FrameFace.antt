@@ -15,6 +15,7 @@ pub record Read : Type 0 where
   pub there : Bool
   pub value : ℕ
 
+-- from the bytes, the place, and what the lent number held
 abbrev pub read : List ℕ → ℕ → ℕ → Read
 read s at old = cond (leb (at + 4) (length s)) (record { there = true; value = readU32 s at }) (record { there = false; value = old })
 
@@ -24,6 +25,7 @@ pub record Start : Type 0 where
   pub there : ℕ
   pub start : ℕ
 
+-- from the answer of the search: no start leaves zeros
 abbrev pub answered : TagStart → Start
 answered (At n) = record { reply = 0; there = 1; start = n }
 answered Nowhere = record { reply = 0; there = 0; start = 0 }

@@ -28,6 +28,7 @@ pub record ItemFace : Type 0 where
   pub valueStart : ℕ
   pub valueEnd : ℕ
 
+-- from the answer of the step, and what the lent numbers held
 abbrev pub itemFace : Stepped → ℕ → ℕ → ℕ → ℕ → ℕ → ItemFace
 itemFace (Item flags a b c d) there ks ke vs ve = record { reply = 0; there = 1; keyStart = a; keyEnd = b; valueStart = c; valueEnd = d }
 itemFace End there ks ke vs ve = record { reply = 0; there = 0; keyStart = 0; keyEnd = 0; valueStart = 0; valueEnd = 0 }
@@ -40,6 +41,7 @@ pub record FoundFace : Type 0 where
   pub start : ℕ
   pub size : ℕ
 
+-- from the answer of get, and what the lent numbers held
 abbrev pub foundFace : Found → ℕ → ℕ → ℕ → FoundFace
 foundFace (Value at n) there start size = record { reply = 0; there = 1; start = at; size = n }
 foundFace Nothing there start size = record { reply = 0; there = 0; start = 0; size = 0 }
@@ -51,6 +53,7 @@ pub record GainFace : Type 0 where
   pub there : ℕ
   pub steps : ℤ
 
+-- from the answer about the undo steps, and what the lent numbers held
 abbrev pub gainFace : UndoGain → ℕ → ℤ → GainFace
 gainFace (Steps n) there steps = record { reply = 0; there = 1; steps = n }
 gainFace NoSteps there steps = record { reply = 0; there = 0; steps = pos 0 }
@@ -62,6 +65,7 @@ pub record EditedFace : Type 0 where
   pub items : ℕ
   pub written : ℕ
 
+-- from the answer of the edit, and what the lent numbers held
 abbrev pub editedFace : Edited → ℕ → ℕ → EditedFace
 editedFace (Done n m) items written = record { reply = 0; items = n; written = m }
 editedFace (Refused r) items written = record { reply = numberOf r; items = items; written = written }

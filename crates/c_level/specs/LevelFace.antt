@@ -10,6 +10,7 @@ pub record LevelFace : Type 0 where
   pub written : ℕ
   pub peaks : ℕ
 
+-- from the answer of level or undo, and what the lent numbers held
 abbrev pub levelFace : LevelAnswer → ℕ → ℕ → LevelFace
 levelFace (Done n p) written peaks = record { reply = 0; written = n; peaks = p }
 levelFace (Refused r) written peaks = record { reply = numberOf r; written = written; peaks = peaks }

@@ -119,14 +119,17 @@ wraps Wrapping = true
 
 -- ---- the range of all gains
 
+-- the least of the gains: 255 for none
 unfoldable pub least : List ℕ → ℕ
 least [] = 255
 least (g ∷ gs) = min g (least gs)
 
+-- the greatest of the gains: 0 for none
 unfoldable pub greatest : List ℕ → ℕ
 greatest [] = 0
 greatest (g ∷ gs) = max g (greatest gs)
 
+-- both ends of the gains
 abbrev pub rangeOf : List ℕ → Range
 rangeOf gs = record { least = least gs; greatest = greatest gs }
 
@@ -193,6 +196,7 @@ levelGives file left right l = record {
   peaks = countOf isPeakKey (newItems file left right l);
 }
 
+-- level: refused by the first test that fails, else what it gives
 unfoldable pub levelPlan : List ℕ → List ℕ → List ℕ → Level → ℕ → Plan Levelled
 levelPlan file left right l room = planned (refusalOf (levelTests file left right l room)) (levelGives file left right l)
 
@@ -202,10 +206,11 @@ levelPlan file left right l room = planned (refusalOf (levelTests file left righ
 unfoldable pub others : List Item → List Item
 others ts = without isMp3gainKey ts
 
--- the gains of either side adjusted by a stored undo text, under its flag
+-- the gains of the left side adjusted by a stored undo text, under its flag
 abbrev pub undoneLeft : List ℕ → List ℕ → List ℕ
 undoneLeft text gs = adjusted (modeOf (undoWraps text)) ((parseUndo text) .left) gs
 
+-- those of the right side likewise
 abbrev pub undoneRight : List ℕ → List ℕ → List ℕ
 undoneRight text gs = adjusted (modeOf (undoWraps text)) ((parseUndo text) .right) gs
 
@@ -221,5 +226,6 @@ undoGives file left right =
     let text = Option·getD (storedUndo (itemsOf file)) [] in
     record { out = replaced file (others (itemsOf file)); left = undoneLeft text left; right = undoneRight text right; peaks = 0 }
 
+-- undo: refused by the first test that fails, else what it gives
 unfoldable pub undoPlan : List ℕ → List ℕ → List ℕ → ℕ → Plan Levelled
 undoPlan file left right room = planned (refusalOf (undoTests file left room)) (undoGives file left right)

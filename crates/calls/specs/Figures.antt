@@ -65,6 +65,7 @@ fives = by (pos 5) (pos 5) Saturating
 
 -- ---- the figures marked P, row by row
 
+-- each field is a figure, under the row that has it
 pub record Figures : Type 0 where
   -- undo 3, -12, N; 0, 1000, W
   pub undo-n : formatUndo (pos 3) (negsuc 11) false ≡ ascii "+003,-012,N"
@@ -116,6 +117,7 @@ version1000 = preamble ++ (u32le 1000 ++ (u32le 32 ++ (u32le 0 ++ (u32le 0 ++ re
 abbrev pub peaked : List Item
 peaked = item (ascii "replaygain_track_peak") (ascii "0.9") ∷ item (ascii "Mp3gain_MinMax") (ascii "010,200") ∷ item (ascii "MP3GAIN_undo") (ascii "+001,-002,W") ∷ []
 
+-- each field is a call and what it gives
 pub record Examples : Type 0 where
   -- 2: left 256
   pub two : levelPlan [] (10 ∷ []) [] (by (pos 256) (pos 0) Saturating) 1000 ≡ no StepOutOfRange

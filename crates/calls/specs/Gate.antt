@@ -26,11 +26,11 @@ countsFooter s f = leb 32 (sizeAt s f)
 abbrev pub hasStart : List ℕ → ℕ → Bool
 hasStart s f = started (tagStart s f) false (λ n. true)
 
--- refusal 6: not too many items
+-- not more items than refusal 6 lets a new tag have
 abbrev pub countFits : List ℕ → ℕ → Bool
 countFits s f = leb (countAt s f) countLimit
 
--- refusal 6: not too many item bytes
+-- not more item bytes than refusal 6 lets a new tag have
 abbrev pub areaFits : List ℕ → ℕ → Bool
 areaFits s f = leb (sizeAt s f) (32 + areaLimit)
 

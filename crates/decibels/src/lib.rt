@@ -18,6 +18,7 @@ enum Count {
     Nothing,
 }
 
+// The amount of a gain text, or that it has none.
 pub enum GainField {
     Value(Millionths),
     Nothing,

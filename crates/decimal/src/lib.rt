@@ -74,6 +74,7 @@ pub fn put_decimal(out: &mut [u8], at: usize, n: u32, least: usize, most: usize,
     put_places(out, at, k, n)
 }
 
+// The byte of a sign.
 pub fn sign_byte(minus: bool) -> u8
     ensures { λ r. ⌜ r ≡ W.signByte minus ⌝ }
 {

@@ -46,6 +46,6 @@ pub record Passed (s : List ℕ) (start end count : ℕ) : Type 0 where
   pub few : count ≤ countLimit
   pub short : end - start ≤ areaLimit
 
--- the last tests of every call that writes a file: refusals 6 and 5
+-- the last tests of set, remove and level on a file: refusals 6 and 5 (undo takes the same way, where 6 cannot occur)
 unfoldable pub tagPlan : List ℕ → List Item → ℕ → Plan (List ℕ)
 tagPlan file ts room = planned (refusalOf (need TagTooLarge (tagFits ts) ∷ roomFor room (replaced file ts) ∷ [])) (replaced file ts)

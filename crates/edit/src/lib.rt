@@ -128,7 +128,8 @@ pub fn small_scratch() -> [u8; 4096]
     [0u8; 4096]
 }
 
-// The file with the items of a well-formed area in place of its own: refusals 6 and 5, the last of every call that writes a file.
+// The file with the items of a well-formed area in place of its own. Here are the last tests of set, remove and level on a file: refusals 6 and 5
+// (undo takes the same way, where 6 cannot occur).
 pub fn finish(file: &[u8], area: &[u8], count: usize, out: &mut [u8]) -> Written
     requires { ⌜ (length (now file) ≤ 16777216) × (isSome (parse count (now area)) ≡ true) ⌝ }
     ensures { λ r. ⌜ (let plan = tagPlan (now (file .entry)) (itemsIn count (now (area .entry))) (length (now (out .entry))) in

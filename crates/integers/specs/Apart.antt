@@ -10,9 +10,10 @@ abbrev pub signed : Bool → ℕ → ℤ
 signed true n = negsuc n
 signed false n = pos n
 
--- `mag` is n of `pos n` and of `negsuc n`
+-- an integer taken apart: `mag` is n of `pos n` and of `negsuc n`
 abbrev pub apartOf : ℤ → Apart
 apartOf z = record { down = ltZ z (pos 0); by = mag z }
 
+-- an integer put together again
 abbrev pub wholeOf : Apart → ℤ
 wholeOf a = signed (a .down) (a .by)

@@ -9,7 +9,7 @@ pub struct Apart {
     pub by: u32,
 }
 
-// `!n` is -n - 1, which every i32 has.
+// A number by its sign and its size. `!n` is -n - 1, which every i32 has.
 pub fn take_apart(n: i32) -> Apart
     ensures { λ r. ⌜ r ≡ apartOf n ⌝ }
 {
@@ -26,6 +26,7 @@ pub fn take_apart(n: i32) -> Apart
     }
 }
 
+// The number that has this sign and this size.
 pub fn together(a: Apart) -> i32
     requires { ⌜ a .by < 2147483648 ⌝ }
     ensures { λ r. ⌜ r ≡ wholeOf a ⌝ }

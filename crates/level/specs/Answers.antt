@@ -27,11 +27,12 @@ abbrev pub levelBytes : Plan Levelled → List ℕ
 levelBytes (no r) = []
 levelBytes (yes x) = x .out
 
--- the gains of either side: unchanged when refused
+-- the gains of the left side: unchanged when refused
 abbrev pub leftAfter : Plan Levelled → List ℕ → List ℕ
 leftAfter (no r) gains = gains
 leftAfter (yes x) gains = x .left
 
+-- those of the right side likewise
 abbrev pub rightAfter : Plan Levelled → List ℕ → List ℕ
 rightAfter (no r) gains = gains
 rightAfter (yes x) gains = x .right

@@ -63,8 +63,8 @@ pub fn put(out: &mut [u8], at: usize, src: &[u8]) -> usize
     at + i
 }
 
-// Writes all of `src` into `out` from `at`, a block at a time, each by way of an array of its own: what is copied to and from that array the compiler
-// copies with `memcpy`, since nothing else can refer to it.
+// Writes all of `src` into `out` from `at`, a block at a time, each by way of one array that nothing else can refer to, so that the compiler copies
+// with `memcpy`; answers where it ends.
 fn put_blocks(out: &mut [u8], at: usize, src: &[u8]) -> usize
     requires { ⌜ at + length (now src) ≤ length (now out) ⌝ }
     ensures { λ r. ⌜ (r ≡ at + length (now (src .entry))) × (now (out .exit) ≡ splice (now (out .entry)) at (now (src .entry))) ⌝ }
@@ -80,7 +80,7 @@ fn put_blocks(out: &mut [u8], at: usize, src: &[u8]) -> usize
     put(out, at + i, &src[i..])
 }
 
-// Writes the part of `src` between two places into `out` from `at`.
+// Writes the part of `src` between two places into `out` from `at`, and answers where it ends.
 pub fn put_part(out: &mut [u8], at: usize, src: &[u8], from: usize, to: usize) -> usize
     requires { ⌜ (from ≤ to) × (to ≤ length (now src)) × (at + (to - from) ≤ length (now out)) ⌝ }
     ensures { λ r. ⌜ (r ≡ at + length (part from to (now (src .entry))))
@@ -92,7 +92,7 @@ pub fn put_part(out: &mut [u8], at: usize, src: &[u8], from: usize, to: usize) -
 // From how many bytes on a part is written in blocks: below it, clearing the block costs more than it saves.
 const LONG: usize = 65536;
 
-// The same for a part that may be long.
+// `put_part` for a part that may be long.
 pub fn put_long_part(out: &mut [u8], at: usize, src: &[u8], from: usize, to: usize) -> usize
     requires { ⌜ (from ≤ to) × (to ≤ length (now src)) × (at + (to - from) ≤ length (now out)) ⌝ }
     ensures { λ r. ⌜ (r ≡ at + length (part from to (now (src .entry))))

@@ -9,13 +9,14 @@ pub struct Reader<'a> {
     pub at: usize,
 }
 
+// A reader of an area, at a place in it.
 pub fn new<'a>(area: &'a [u8], at: usize) -> Reader<'a>
     ensures { λ r. ⌜ (r .area ≡ area .entry) × (r .at ≡ at) ⌝ }
 {
     Reader { area, at }
 }
 
-// The item that is read next.
+// The item at the reader's place. The reader does not move: the next item begins where this one's value ends.
 pub fn next<'a>(r: Reader<'a>) -> Stepped
     ensures { λ s. ⌜ s ≡ stepOf (now (r .entry .area)) (r .entry .at) ⌝ }
 {

@@ -9,9 +9,10 @@ fileLimit = 16777216
 abbrev pub listingLimit : ℕ
 listingLimit = 16384
 
--- refusal 6: items of a new tag, and their bytes
+-- refusal 6: items of a new tag
 abbrev pub countLimit : ℕ
 countLimit = 256
 
+-- refusal 6: item bytes of a new tag
 abbrev pub areaLimit : ℕ
 areaLimit = 32768

@@ -48,6 +48,7 @@ pub record Test : Type 0 where
   pub refusal : Refusal
   pub holds : Bool
 
+-- a test: the refusal, and what has to hold
 abbrev pub need : Refusal → Bool → Test
 need r b = record { refusal = r; holds = b }
 
@@ -56,6 +57,7 @@ abbrev pub failed : Refusal → List Test → Bool
 failed r [] = false
 failed r (t ∷ ts) = cond (eqb (numberOf (t .refusal)) (numberOf r)) (not (t .holds)) (failed r ts)
 
+-- the first refusal of a list whose test fails: none where all hold
 abbrev pub firstOf : List Refusal → List Test → Option Refusal
 firstOf [] ts = none
 firstOf (r ∷ rs) ts = cond (failed r ts) (some r) (firstOf rs ts)

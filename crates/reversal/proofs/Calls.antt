@@ -1,4 +1,4 @@
--- Laws C and D: on the file of a sound book each call answers by the table, and an accepted one gives the file of the changed book.
+-- On the file of a sound book each call answers by the table, and an accepted one gives the file of the changed book.
 use Prim.Native.Nat.{ℕ, _+_, _≤_}
 use native.Mathlib.Omega.{arith}
 use mathlib.Core.Path.{_≡_, refl, sym, ap, _∙_}

@@ -44,6 +44,7 @@ pub record Given (s : State) (cs : List Call) (room : ℕ) : Type 0 where
   -- "an undo after it, lent an output at least as long as its file"
   pub long : length ((run s cs) .file) ≤ room
 
+-- what the demand says of that undo, of the accepted edits alone, and of each gain
 pub record Restored (s : State) (cs : List Call) (room : ℕ) : Type 0 where
   -- "is accepted"
   pub undone : Levelled

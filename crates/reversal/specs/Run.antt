@@ -54,25 +54,29 @@ pub record State : Type 0 where
 
 -- ---- either side
 
+-- the left or the right side
 pub data Side : Type 0 where
   onLeft : Side
   onRight : Side
 
+-- the step of a level call on a side
 abbrev pub stepOn : Side → Level → ℤ
 stepOn onLeft l = l .left
 stepOn onRight l = l .right
 
+-- the gains of a side
 abbrev pub gainsOn : Side → State → List ℕ
 gainsOn onLeft s = s .left
 gainsOn onRight s = s .right
 
 -- ---- one call
 
--- refused, or the state that it leaves, from what it gives
+-- a level call: refused, or the state that it leaves, from what it gives
 abbrev pub levelTo : Plan Levelled → Plan State
 levelTo (no r) = no r
 levelTo (yes o) = yes (record { file = o .out; left = o .left; right = o .right })
 
+-- an edit: refused, or the state with the file that it writes; the gains stay
 abbrev pub editTo : State → Plan (List ℕ) → Plan State
 editTo s (no r) = no r
 editTo s (yes w) = yes (record { file = w; left = s .left; right = s .right })
@@ -82,6 +86,7 @@ unfoldable pub outcome : State → Call → Plan State
 outcome s (level l room) = levelTo (levelPlan (s .file) (s .left) (s .right) l room)
 outcome s (edit e) = editTo s (editPlan (s .file) e)
 
+-- is it done, not refused?
 abbrev pub isYes : {A : Type 0} → Plan A → Bool
 isYes (no r) = false
 isYes (yes a) = true
@@ -95,6 +100,7 @@ after s (yes t) = t
 unfoldable pub accepts : State → Call → Bool
 accepts s c = isYes (outcome s c)
 
+-- the state that a call leaves
 unfoldable pub next : State → Call → State
 next s c = after s (outcome s c)
 
@@ -117,10 +123,12 @@ editIf true (level l room) = []
 editIf true (edit e) = e ∷ []
 editIf false c = []
 
+-- the accepted level calls of a list
 unfoldable pub acceptedLevels : State → List Call → List Level
 acceptedLevels s [] = []
 acceptedLevels s (c ∷ cs) = levelIf (accepts s c) c ++ acceptedLevels (next s c) cs
 
+-- the accepted edits of a list
 unfoldable pub acceptedEdits : State → List Call → List Edit
 acceptedEdits s [] = []
 acceptedEdits s (c ∷ cs) = editIf (accepts s c) c ++ acceptedEdits (next s c) cs
@@ -136,6 +144,7 @@ abbrev pub feedCall : Book → Call → Bool → Book
 feedCall b (level l room) t = b
 feedCall b (edit e) t = feed b e t
 
+-- a book fed each call of a list
 unfoldable pub fed : Book → State → List Call → Book
 fed b s [] = b
 fed b s (c ∷ cs) = fed (feedCall b c (accepts s c)) (next s c) cs

@@ -14,6 +14,7 @@ pub struct Wish {
     pub mode: GainMode,
 }
 
+// What a slip asks for, or the refusal.
 pub enum Slip {
     Steps(Wish),
     Refused(Refusal),

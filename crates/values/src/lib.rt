@@ -32,6 +32,7 @@ pub struct Range {
     pub greatest: u8,
 }
 
+// The range of a text, or that it has none.
 pub enum RangeField {
     Value(Range),
     Nothing,
