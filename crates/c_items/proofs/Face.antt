@@ -11,8 +11,9 @@ use Rattle.c_items.specs.ItemsFace.{editedFace}
 
 -- an edit that answered and wrote as planned, and whose answer was put into the lent numbers, is the face of the plan
 pub face-of : {r items' written' : ℕ} {out' : List ℕ} {e : Edited} (plan : Plan (List Item)) (items written : ℕ) (out : List ℕ)
-    → (e ≡ answer plan) × (out' ≡ over (bytes plan) out)
+    → e ≡ answer plan
+    → out' ≡ over (bytes plan) out
     → (r ≡ editedFace e items written .reply) × (items' ≡ editedFace e items written .items) × (written' ≡ editedFace e items written .written)
     → (r ≡ editedFace (answer plan) items written .reply) × (items' ≡ editedFace (answer plan) items written .items)
     × (written' ≡ editedFace (answer plan) items written .written) × (out' ≡ over (bytes plan) out)
-face-of plan items written out done told = rw (← done .0) (told .0, told .1, told .2, done .1)
+face-of plan items written out answered wrote told = rw (← answered) (told .0, told .1, told .2, wrote)

@@ -9,7 +9,7 @@ returns : tie.Need-returns
 returns c =
     let w = c .before .before .before .before .before in
     let g = w .before .before .before .before .before .args in
-    face-of (removePlan (g .key .now) (g .count) (g .area .now) (length (g .out .now))) (g .items .now) (g .written .now) (g .out .now) (w .remove .ensures) (c .edited .ensures)
+    face-of (removePlan (g .key .now) (g .count) (g .area .now) (length (g .out .now))) (g .items .now) (g .written .now) (g .out .now) (w .remove .ensures .0) (w .remove .ensures .1) (c .edited .ensures)
 
 pub zib-remove-spec : {M : Type 1} → statement M
 zib-remove-spec = tie.close (tie.spec (λ c κs. search needs) (λ c κs. search needs) (λ c. search needs) returns)

@@ -9,7 +9,7 @@ returns : tie.Need-returns
 returns c =
     let w = c .before .before .before .before .before in
     let g = w .before .before .before .before .before .before .args in
-    face-of (setPlan (g .key .now) (g .value .now) (g .count) (g .area .now) (length (g .out .now))) (g .items .now) (g .written .now) (g .out .now) (w .set .ensures) (c .edited .ensures)
+    face-of (setPlan (g .key .now) (g .value .now) (g .count) (g .area .now) (length (g .out .now))) (g .items .now) (g .written .now) (g .out .now) (w .set .ensures .0) (w .set .ensures .1) (c .edited .ensures)
 
 pub zib-set-spec : {M : Type 1} → statement M
 zib-set-spec = tie.close (tie.spec (λ c κs. search needs) (λ c κs. search needs) (λ c. search needs) returns)

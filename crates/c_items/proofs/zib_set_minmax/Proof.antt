@@ -11,7 +11,7 @@ returns : tie.Need-returns
 returns c =
     let w = c .before .before .before .before .before in
     let g = w .before .before .before .before .args in
-    face-of (setPlan minmaxKey (formatRange (record { least = g .least; greatest = g .greatest })) (g .count) (g .area .now) (length (g .out .now))) (g .items .now) (g .written .now) (g .out .now) (w .set-minmax .ensures) (c .edited .ensures)
+    face-of (setPlan minmaxKey (formatRange (record { least = g .least; greatest = g .greatest })) (g .count) (g .area .now) (length (g .out .now))) (g .items .now) (g .written .now) (g .out .now) (w .set-minmax .ensures .0) (w .set-minmax .ensures .1) (c .edited .ensures)
 
 pub zib-set-minmax-spec : {M : Type 1} → statement M
 zib-set-minmax-spec = tie.close (tie.spec (λ c κs. search needs) (λ c κs. search needs) (λ c. search needs) returns)

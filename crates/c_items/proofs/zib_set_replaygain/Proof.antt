@@ -10,7 +10,7 @@ returns : tie.Need-returns
 returns c =
     let w = c .before .before .before .before .before in
     let g = w .before .before .before .before .before .before .before .before .before .args in
-    face-of (setGainsPlan (g .track-gain .now ∷ g .track-peak .now ∷ g .album-gain .now ∷ g .album-peak .now ∷ g .algorithm .now ∷ []) (g .count) (g .area .now) (length (g .out .now))) (g .items .now) (g .written .now) (g .out .now) (w .set-replaygain .ensures) (c .edited .ensures)
+    face-of (setGainsPlan (g .track-gain .now ∷ g .track-peak .now ∷ g .album-gain .now ∷ g .album-peak .now ∷ g .algorithm .now ∷ []) (g .count) (g .area .now) (length (g .out .now))) (g .items .now) (g .written .now) (g .out .now) (w .set-replaygain .ensures .0) (w .set-replaygain .ensures .1) (c .edited .ensures)
 
 pub zib-set-replaygain-spec : {M : Type 1} → statement M
 zib-set-replaygain-spec = tie.close (tie.spec (λ c κs. search needs) (λ c κs. search needs) (λ c. search needs) returns)

@@ -14,7 +14,7 @@ returns c =
     let b = w .before .before .before .before in
     let g = b .args in
     let e = rw (toZ-ofZ (b .fits .left), toZ-ofZ (b .fits .right)) at (w .set-undo-gain .ensures) in
-    face-of (setPlan undoKey (formatUndo (g .left) (g .right) (g .wrap)) (g .count) (g .area .now) (length (g .out .now))) (g .items .now) (g .written .now) (g .out .now) e (c .edited .ensures)
+    face-of (setPlan undoKey (formatUndo (g .left) (g .right) (g .wrap)) (g .count) (g .area .now) (length (g .out .now))) (g .items .now) (g .written .now) (g .out .now) (e .0) (e .1) (c .edited .ensures)
 
 pub zib-set-undo-gain-spec : {M : Type 1} → statement M
 zib-set-undo-gain-spec = tie.close (tie.spec (λ c κs. search needs) (λ c κs. search needs) (λ c. search needs) returns)

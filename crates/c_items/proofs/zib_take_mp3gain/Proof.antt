@@ -10,7 +10,7 @@ returns : tie.Need-returns
 returns c =
     let w = c .before .before .before .before .before in
     let g = w .before .before .before .before .args in
-    face-of (dropPlan isMp3gainKey (g .count) (g .area .now) (length (g .out .now))) (g .items .now) (g .written .now) (g .out .now) (w .take-mp3gain .ensures) (c .edited .ensures)
+    face-of (dropPlan isMp3gainKey (g .count) (g .area .now) (length (g .out .now))) (g .items .now) (g .written .now) (g .out .now) (w .take-mp3gain .ensures .0) (w .take-mp3gain .ensures .1) (c .edited .ensures)
 
 pub zib-take-mp3gain-spec : {M : Type 1} → statement M
 zib-take-mp3gain-spec = tie.close (tie.spec (λ c κs. search needs) (λ c κs. search needs) (λ c. search needs) returns)

@@ -14,7 +14,7 @@ returns c =
     let g = b .args in
     let u = rw (toZ-ofZ (b .fits .left-steps), toZ-ofZ (b .fits .right-steps)) at (l .level .ensures) in
     rw (← m .from-wrap .ensures)
-    (face-of (levelPlan (g .file .now) (g .left .now) (g .right .now) (record { left = g .left-steps; right = g .right-steps; mode = m .from-wrap .result }) (length (g .out .now))) (g .written .now) (g .peaks .now) (g .out .now) (g .left .now) (g .right .now) u (c .put-answer .ensures))
+    (face-of (levelPlan (g .file .now) (g .left .now) (g .right .now) (record { left = g .left-steps; right = g .right-steps; mode = m .from-wrap .result }) (length (g .out .now))) (g .written .now) (g .peaks .now) (g .out .now) (g .left .now) (g .right .now) (u .0) (u .1, u .2, u .3) (c .put-answer .ensures))
 
 pub zib-level-spec : {M : Type 1} → statement M
 zib-level-spec =
