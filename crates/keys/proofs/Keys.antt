@@ -6,7 +6,7 @@ use mathlib.Core.Path.{_≡_, refl, sym, ap, _∙_, fun-ext}
 use mathlib.Core.Bool.{Bool, true, false, not, _&&_, _||_, cond, and-eq-true-iff, true≢false}
 use mathlib.Core.Option.{Option, none, some, Option·map}
 use mathlib.Core.List.{List, [], _∷_, map, map-map}
-use lib.ListN.{length, getD, drop, length-map}
+use lib.ListN.{length, getD, take, drop, length-map}
 use lib.Seq.{drop-cons}
 use lib.Dec.{leb, eqb}
 use borrow.Author.Tests.{lt-leb, le-leb, leb-true, ne-eqb}
@@ -76,18 +76,32 @@ getD-upper [] i h = absurd (omega arith)
 getD-upper (x ∷ a) zero h = refl
 getD-upper (x ∷ a) (suc i) h = getD-upper a i (omega arith)
 
--- ---- a loop that compares two keys, at i
+-- ---- a loop that compares two keys, before i
+
+and-swap : (x y z : Bool) → (x && (y && z)) ≡ (y && (x && z))
+and-swap true y z = refl
+and-swap false y z = sym (and-false y)
 
 -- keys of two lengths differ
 pub key-unequal : (a b : List ℕ) → (length a ≡ length b → ⊥) → sameKey a b ≡ false
 unfolding sameKey
 key-unequal a b h = same-unequal (upperAll a) (upperAll b) (λ e. h (sym (length-upper a) ∙ e ∙ length-upper b))
 
--- what is left from i: the letters there, and what is left from i + 1
-pub key-step : (a b : List ℕ) (i : ℕ) → i < length a → i < length b
-    → sameKey (drop i a) (drop i b) ≡ (eqb (upper (getD a i 0)) (upper (getD b i 0)) && sameKey (drop (i + 1) a) (drop (i + 1) b))
+key-last : (a b : List ℕ) (i : ℕ) → i < length a → i < length b
+    → sameKey (take (suc i) a) (take (suc i) b) ≡ (eqb (upper (getD a i 0)) (upper (getD b i 0)) && sameKey (take i a) (take i b))
 unfolding sameKey same upperAll
-key-step a b i p q = rw (drop-cons a i 0, drop-cons b i 0, add-one)
+key-last [] b i p q = absurd (omega arith)
+key-last (x ∷ a) [] i p q = absurd (omega arith)
+key-last (x ∷ a) (y ∷ b) zero p q = refl
+key-last (x ∷ a) (y ∷ b) (suc i) p q =
+    rw (key-last a b i (omega arith) (omega arith)) (and-swap (eqb (upper x) (upper y)) (eqb (upper (getD a i 0)) (upper (getD b i 0))) (sameKey (take i a) (take i b)))
+
+-- what is before i: the letters just before it, and what is before them
+pub key-step : (a b : List ℕ) (i : ℕ) → 0 < i → i ≤ length a → i ≤ length b
+    → sameKey (take i a) (take i b) ≡ (eqb (upper (getD a (i - 1) 0)) (upper (getD b (i - 1) 0)) && sameKey (take (i - 1) a) (take (i - 1) b))
+key-step a b i h p q =
+    let e : i ≡ suc (i - 1) = omega arith in
+    ap (λ (n : ℕ). sameKey (take n a) (take n b)) e ∙ key-last a b (i - 1) (omega arith) (omega arith)
 
 pub key-nil : sameKey [] [] ≡ true
 unfolding sameKey same upperAll

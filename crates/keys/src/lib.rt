@@ -86,19 +86,19 @@ pub fn upper_case(b: u8) -> u8
     b - 32
 }
 
-// Whether the two are equal but for the case of their letters.
+// Whether the two are equal but for the case of their letters. Keys often begin alike, so the last letters are compared first.
 pub fn same_key(a: &[u8], b: &[u8]) -> bool
     ensures { λ r. ⌜ r ≡ sameKey (now (a .entry)) (now (b .entry)) ⌝ }
 {
     if a.len() != b.len() {
         return false;
     }
-    let mut i = 0;
-    while i < a.len() {
+    let mut i = a.len();
+    while 0 < i {
+        i -= 1;
         if upper_case(a[i]) != upper_case(b[i]) {
             return false;
         }
-        i += 1;
     }
     true
 }

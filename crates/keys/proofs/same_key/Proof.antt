@@ -1,29 +1,36 @@
--- The invariant: the two are the same where what is left of them from i is.
+-- The invariant: the two are the same where what is before i is.
 use mathlib.Core.Path.{_≡_, refl, ap, sym, _∙_}
-use Prim.Native.Nat.{_≤_, _-_}
+use Prim.Native.Nat.{ℕ, _≤_, _-_}
 use native.Mathlib.Omega.{arith}
 use borrow.Author.Needs.{needs}
 use borrow.Author.Tests.{eq-eqb, ne-eqb}
-use lib.ListN.{length, drop, getD, drop-of-length-le}
+use lib.ListN.{length, take, getD}
+use lib.Seq.{take-length}
 use Rattle.keys.specs.Keys.{upper, sameKey}
 use Rattle.keys.proofs.Keys.{key-unequal, key-step, key-nil}
 use Rattle.keys.proofs.same_key.Statement.{statement}
 use Rattle.keys.proofs.same_key.Tie as tie
 
 abbrev Inv-loop : tie.InvT-loop
-Inv-loop a b i₀ i = (length a ≡ length b) × (i ≤ length a) × (sameKey a b ≡ sameKey (drop i a) (drop i b))
+Inv-loop a b i₀ i = (length a ≡ length b) × (i ≤ length a) × (sameKey a b ≡ sameKey (take i a) (take i b))
 
 abbrev μ-loop : tie.MeasureT-loop
-μ-loop a b i₀ i = length a - i
+μ-loop a b i₀ i = i
 
 returns : tie.Need-returns Inv-loop μ-loop
 returns c = let g = c .before .before .before .args in sym (key-unequal (g .a .now) (g .b .now) (c .if1 .taken))
+
+loop-holds : tie.Need-loop-holds Inv-loop μ-loop
+loop-holds c =
+    let g = c .before .before .before .args in
+    let whole : take (length (g .a .now)) (g .b .now) ≡ g .b .now = ap (λ (n : ℕ). take n (g .b .now)) (c .if1 .left) ∙ take-length (g .b .now) in
+    (c .if1 .left, omega arith, rw (take-length (g .a .now), whole))
 
 returns-2 : tie.Need-returns-2 Inv-loop μ-loop
 returns-2 c =
     let l = c .before .before .before .before .before .before in
     let g = l .before .before .before .before .args in
-    sym (l .loop .inv .2 ∙ rw (key-step (g .a .now) (g .b .now) (l .loop .i) (omega arith) (omega arith), ne-eqb (upper (getD (g .a .now) (l .loop .i) 0)) (upper (getD (g .b .now) (l .loop .i) 0)) (λ e. c .if2 .taken (c .before .before .before .upper-case .ensures ∙ e ∙ sym (c .before .upper-case2 .ensures)))))
+    sym (l .loop .inv .2 ∙ rw (key-step (g .a .now) (g .b .now) (l .loop .i) (omega arith) (omega arith) (omega arith), ne-eqb (upper (getD (g .a .now) (l .loop .i - 1) 0)) (upper (getD (g .b .now) (l .loop .i - 1) 0)) (λ e. c .if2 .taken (c .before .before .before .upper-case .ensures ∙ e ∙ sym (c .before .upper-case2 .ensures)))))
 
 loop-again : tie.Need-loop-again Inv-loop μ-loop
 loop-again c =
@@ -31,14 +38,14 @@ loop-again c =
     let g = l .before .before .before .before .args in (
       l .loop .inv .0,
       omega arith,
-      l .loop .inv .2 ∙ rw (key-step (g .a .now) (g .b .now) (l .loop .i) (omega arith) (omega arith), eq-eqb (upper (getD (g .a .now) (l .loop .i) 0)) (upper (getD (g .b .now) (l .loop .i) 0)) (sym (c .before .before .before .upper-case .ensures) ∙ c .if2 .left ∙ c .before .upper-case2 .ensures)),
+      l .loop .inv .2 ∙ rw (key-step (g .a .now) (g .b .now) (l .loop .i) (omega arith) (omega arith) (omega arith), eq-eqb (upper (getD (g .a .now) (l .loop .i - 1) 0)) (upper (getD (g .b .now) (l .loop .i - 1) 0)) (sym (c .before .before .before .upper-case .ensures) ∙ c .if2 .left ∙ c .before .upper-case2 .ensures)),
     )
 
 returns-3 : tie.Need-returns-3 Inv-loop μ-loop
 returns-3 c =
     let l = c .before in
-    let g = l .before .before .before .before .args in
-    sym (l .loop .inv .2 ∙ rw (drop-of-length-le (g .a .now) {i = l .loop .i} (omega arith), drop-of-length-le (g .b .now) {i = l .loop .i} (omega arith)) key-nil)
+    let none : l .loop .i ≡ 0 = omega arith in
+    sym (l .loop .inv .2 ∙ rw none key-nil)
 
 pub same-key-spec : {M : Type 1} → statement M
 same-key-spec =
@@ -47,13 +54,13 @@ same-key-spec =
     Inv-loop
     μ-loop
     returns
-    (λ c. (c .if1 .left, omega arith, refl))
+    loop-holds
+    (λ c. omega arith)
     (λ c. omega arith)
     (λ c κs. search needs)
     (λ c. omega arith)
     (λ c κs. search needs)
     returns-2
-    (λ c. omega arith)
     (λ c. omega arith)
     loop-again
     returns-3)
