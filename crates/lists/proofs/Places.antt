@@ -27,6 +27,15 @@ pub place-end : (c : ℕ) (s : List ℕ) (i : ℕ) → length s ≤ i → placeO
 unfolding placeOf
 place-end c s i h = rw (drop-of-length-le s {i = i} h)
 
+-- a search from `at` that has come to i: the byte is there, or the search goes on behind it
+pub place-here : (c : ℕ) (s : List ℕ) (at i : ℕ) → at + placeOf c (drop at s) ≡ i + placeOf c (drop i s) → i < length s → getD s i 0 ≡ c
+    → i ≡ at + placeOf c (drop at s)
+place-here c s at i e h t = omega (arith, e, place-hit c s i h t)
+
+pub place-next : (c : ℕ) (s : List ℕ) (at i : ℕ) → at + placeOf c (drop at s) ≡ i + placeOf c (drop i s) → i < length s → (getD s i 0 ≡ c → ⊥)
+    → at + placeOf c (drop at s) ≡ i + 1 + placeOf c (drop (i + 1) s)
+place-next c s at i e h t = omega (arith, e, place-miss c s i h t)
+
 -- ---- what a place is
 
 pub place-within : (c : ℕ) (s : List ℕ) → placeOf c s ≤ length s

@@ -36,8 +36,8 @@ pub fn starts_with(s: &[u8], at: usize, text: &[u8]) -> bool
     true
 }
 
-// The place of the first `byte` from `at`, or the end where there is none.
-pub fn find_byte(s: &[u8], at: usize, byte: u8) -> usize
+// `find_byte`, one byte at a time.
+fn find_each(s: &[u8], at: usize, byte: u8) -> usize
     ensures { λ r. ⌜ r ≡ at + placeOf byte (drop at (now (s .entry))) ⌝ }
 {
     let mut i = at;
@@ -48,6 +48,36 @@ pub fn find_byte(s: &[u8], at: usize, byte: u8) -> usize
         i += 1;
     }
     i
+}
+
+// The place of the first `byte` from `at`, or the end where there is none. Four bytes are read for one test of the end.
+pub fn find_byte(s: &[u8], at: usize, byte: u8) -> usize
+    ensures { λ r. ⌜ r ≡ at + placeOf byte (drop at (now (s .entry))) ⌝ }
+{
+    if s.len() < 4 {
+        return find_each(s, at, byte);
+    }
+    let last = s.len() - 4;
+    let mut a = at;
+    while a <= last {
+        if s[a] == byte {
+            return a;
+        }
+        let b = a + 1;
+        if s[b] == byte {
+            return b;
+        }
+        let c = b + 1;
+        if s[c] == byte {
+            return c;
+        }
+        let d = c + 1;
+        if s[d] == byte {
+            return d;
+        }
+        a = d + 1;
+    }
+    find_each(s, a, byte)
 }
 
 // Writes all of `src` into `out` from `at`, and answers where it ends.

@@ -1,36 +1,76 @@
--- The invariant: the first such byte from at is the first from i.
+-- The invariant: the first such byte from at is the first from a. Then, where a test fails, it is the first behind that place.
 use mathlib.Core.Path.{_≡_, refl, sym, _∙_}
-use Prim.Native.Nat.{suc, _≤_, _+_, _-_}
+use Prim.Native.Nat.{_≤_, _+_, _-_}
 use native.Mathlib.Omega.{arith}
+use borrow.Author.Needs.{needs}
 use lib.ListN.{length, drop}
 use Rattle.lists.specs.Bytes.{placeOf}
-use Rattle.lists.proofs.Places.{place-hit, place-miss, place-end}
+use Rattle.lists.proofs.Places.{place-here, place-next}
 use Rattle.lists.proofs.find_byte.Statement.{statement}
 use Rattle.lists.proofs.find_byte.Tie as tie
 
 abbrev Inv-loop : tie.InvT-loop
-Inv-loop s at byte i₀ i = at + placeOf byte (drop at s) ≡ i + placeOf byte (drop i s)
+Inv-loop s at byte last a₀ a = at + placeOf byte (drop at s) ≡ a + placeOf byte (drop a s)
 
 abbrev μ-loop : tie.MeasureT-loop
-μ-loop s at byte i₀ i = length s - i
+μ-loop s at byte last a₀ a = length s - a
 
-returns : tie.Need-returns Inv-loop μ-loop
-returns c =
+from-b : (c : tie.Else2 Inv-loop μ-loop)
+    → let l = c .before .before .before in let g = l .before .before .before .args in
+      g .at + placeOf (g .byte) (drop (g .at) (g .s .now)) ≡ l .loop .a + 1 + placeOf (g .byte) (drop (l .loop .a + 1) (g .s .now))
+from-b c =
     let l = c .before .before .before in
-    let g = l .before .args in
-    omega (arith, l .loop .inv, place-hit (g .byte) (g .s .now) (l .loop .i) (omega arith) (c .if1 .taken))
+    let g = l .before .before .before .args in
+    place-next (g .byte) (g .s .now) (g .at) (l .loop .a) (l .loop .inv) (omega arith) (c .if2 .left)
 
-loop-again : tie.Need-loop-again Inv-loop μ-loop
-loop-again c =
-    let l = c .before .before .before in
-    let g = l .before .args in
-    omega (arith, l .loop .inv, place-miss (g .byte) (g .s .now) (l .loop .i) (omega arith) (c .if1 .left))
+from-c : (c : tie.Else3 Inv-loop μ-loop)
+    → let l = c .before .before .before .before .before in let g = l .before .before .before .args in
+      g .at + placeOf (g .byte) (drop (g .at) (g .s .now)) ≡ l .loop .a + 1 + 1 + placeOf (g .byte) (drop (l .loop .a + 1 + 1) (g .s .now))
+from-c c =
+    let l = c .before .before .before .before .before in
+    let g = l .before .before .before .args in
+    place-next (g .byte) (g .s .now) (g .at) (l .loop .a + 1) (from-b (c .before .before)) (omega arith) (c .if3 .left)
+
+from-d : (c : tie.Else4 Inv-loop μ-loop)
+    → let l = c .before .before .before .before .before .before .before in let g = l .before .before .before .args in
+      g .at + placeOf (g .byte) (drop (g .at) (g .s .now)) ≡ l .loop .a + 1 + 1 + 1 + placeOf (g .byte) (drop (l .loop .a + 1 + 1 + 1) (g .s .now))
+from-d c =
+    let l = c .before .before .before .before .before .before .before in
+    let g = l .before .before .before .args in
+    place-next (g .byte) (g .s .now) (g .at) (l .loop .a + 1 + 1) (from-c (c .before .before)) (omega arith) (c .if4 .left)
 
 returns-2 : tie.Need-returns-2 Inv-loop μ-loop
 returns-2 c =
-    let l = c .before in
-    let g = l .before .args in
-    omega (arith, l .loop .inv, place-end (g .byte) (g .s .now) (l .loop .i) (omega arith))
+    let l = c .before .before .before in
+    let g = l .before .before .before .args in
+    place-here (g .byte) (g .s .now) (g .at) (l .loop .a) (l .loop .inv) (omega arith) (c .if2 .taken)
+
+returns-3 : tie.Need-returns-3 Inv-loop μ-loop
+returns-3 c =
+    let l = c .before .before .before .before .before in
+    let g = l .before .before .before .args in
+    place-here (g .byte) (g .s .now) (g .at) (l .loop .a + 1) (from-b (c .before .before)) (omega arith) (c .if3 .taken)
+
+returns-4 : tie.Need-returns-4 Inv-loop μ-loop
+returns-4 c =
+    let l = c .before .before .before .before .before .before .before in
+    let g = l .before .before .before .args in
+    place-here (g .byte) (g .s .now) (g .at) (l .loop .a + 1 + 1) (from-c (c .before .before)) (omega arith) (c .if4 .taken)
+
+returns-5 : tie.Need-returns-5 Inv-loop μ-loop
+returns-5 c =
+    let l = c .before .before .before .before .before .before .before .before .before in
+    let g = l .before .before .before .args in
+    place-here (g .byte) (g .s .now) (g .at) (l .loop .a + 1 + 1 + 1) (from-d (c .before .before)) (omega arith) (c .if5 .taken)
+
+loop-again : tie.Need-loop-again Inv-loop μ-loop
+loop-again c =
+    let l = c .before .before .before .before .before .before .before .before .before in
+    let g = l .before .before .before .args in
+    place-next (g .byte) (g .s .now) (g .at) (l .loop .a + 1 + 1 + 1) (from-d (c .before .before)) (omega arith) (c .if5 .left)
+
+returns-6 : tie.Need-returns-6 Inv-loop μ-loop
+returns-6 c = c .find-each2 .ensures ∙ sym (c .before .before .loop .inv)
 
 pub find-byte-spec : {M : Type 1} → statement M
 find-byte-spec =
@@ -38,10 +78,23 @@ find-byte-spec =
     (tie.spec
     Inv-loop
     μ-loop
+    (λ c κs. search needs)
+    (λ c. c .find-each .ensures)
+    (λ c. omega arith)
     (λ c. refl)
     (λ c. omega arith)
-    returns
+    returns-2
+    (λ c. omega arith)
+    (λ c. omega arith)
+    returns-3
+    (λ c. omega arith)
+    (λ c. omega arith)
+    returns-4
+    (λ c. omega arith)
+    (λ c. omega arith)
+    returns-5
     (λ c. omega arith)
     (λ c. omega arith)
     loop-again
-    returns-2)
+    (λ c κs. search needs)
+    returns-6)
