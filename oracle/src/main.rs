@@ -2,7 +2,8 @@
 //!
 //!     oracle record  [--seed N] [--check] [NAME..]    write the recorded answers that the repository replays without Rust
 //!     oracle compare [--seed N] [--count N] [NAME..]  compare both on generated inputs; the first difference ends it with status 1;
-//!                                                     `--long` is ten times the count, about an hour of one core
+//!                                                     `--long` is ten times the count; `--every` adds to `values` every short gain
+//!                                                     text at every step, most of an hour on two cores
 //!     oracle bench   [NAME..]                       time both sides in one run, and print their ratios
 //!     oracle once    [NAME..]                       run each side of each row of the bench once, between marks: `oracle/bench` counts with it
 //!
@@ -31,7 +32,7 @@ use tools::{Bench, Compare, Record};
 
 fn usage() -> ! {
     eprintln!(
-        "usage: oracle record [--seed N] [--check] [NAME..] | compare [--seed N] [--count N | --long] [NAME..] | bench [NAME..] | once [NAME..]"
+        "usage: oracle record [--seed N] [--check] [NAME..] | compare [--seed N] [--count N | --long] [--every] [NAME..] | bench [NAME..] | once [NAME..]"
     );
     exit(2)
 }
@@ -39,13 +40,14 @@ fn usage() -> ! {
 fn main() {
     let mut args = std::env::args().skip(1);
     let command = args.next().unwrap_or_else(|| usage());
-    let (mut seed, mut count, mut check, mut names) = (1u64, 1_000_000u64, false, Vec::new());
+    let (mut seed, mut count, mut every, mut check, mut names) = (1u64, 1_000_000u64, false, false, Vec::new());
     while let Some(arg) = args.next() {
         let mut number = || args.next().and_then(|v| v.replace('_', "").parse().ok()).unwrap_or_else(|| usage());
         match arg.as_str() {
             "--seed" => seed = number(),
             "--count" => count = number(),
             "--long" => count = 10_000_000,
+            "--every" => every = true,
             "--check" => check = true,
             name if cases::ALL.iter().any(|c| c.name == name) => names.push(name.to_string()),
             _ => usage(),
@@ -63,7 +65,7 @@ fn main() {
         "compare" => {
             let mut all = 0;
             for case in chosen {
-                let mut c = Compare::new(case.name, seed, count);
+                let mut c = Compare::new(case.name, seed, count, every);
                 (case.compare)(&mut c);
                 println!("{}: {} inputs, no difference (seed {seed})", case.name, c.inputs);
                 all += c.inputs;

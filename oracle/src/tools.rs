@@ -50,12 +50,14 @@ pub struct Compare {
     pub rng: Rng,
     /// How many random inputs a module should try.
     pub count: u64,
+    /// Whether a module should try all of what it otherwise tries a part of.
+    pub every: bool,
     pub inputs: u64,
 }
 
 impl Compare {
-    pub fn new(name: &'static str, seed: u64, count: u64) -> Self {
-        Compare { name, rng: Rng::new(seed), count, inputs: 0 }
+    pub fn new(name: &'static str, seed: u64, count: u64, every: bool) -> Self {
+        Compare { name, rng: Rng::new(seed), count, every, inputs: 0 }
     }
 
     fn differ<A: Debug>(&self, what: &str, input: &str, published: A, ours: A) -> ! {

@@ -614,12 +614,12 @@ fn compare_gains(c: &mut Compare) {
             spellings(m, |text| shift(c, "replaygain_album_gain", text.as_bytes(), steps));
         }
     }
-    // The short ones (one digit before the point): some thousands at every step; in a run of ten million, all of them at every step.
-    let stride = if c.count < SHORT { SHORT / 4_000 } else { 1 };
+    // The short ones (one digit before the point) at every step: four thousand of them in a run of a million, or all.
+    let stride = if c.every { 1 } else { (SHORT / (c.count / 250).max(1)).max(1) };
     let threads = std::thread::available_parallelism().map_or(1, |n| n.get() as u64);
     c.inputs += std::thread::scope(|scope| {
         let run = |thread: u64| {
-            let mut own = Compare::new(c.name, 0, 0);
+            let mut own = Compare::new(c.name, 0, 0, false);
             for m in (thread * stride..SHORT).step_by((threads * stride) as usize) {
                 let text = gain_text("", m + m / stride % stride, 1, false);
                 (-255..=255).for_each(|steps| shift(&mut own, TRACK_GAIN, text.as_bytes(), steps));
