@@ -48,6 +48,16 @@ fn published_adjust(current: u8, steps: i32, wrap: bool) -> u8 {
     adjust_gain_value(current, steps, GainMode::from_wrap(wrap))
 }
 
+#[inline(never)]
+fn published_number(bytes: &[u8]) -> Option<u32> {
+    (bytes.len() >= 4).then(|| read_u32_le(bytes))
+}
+
+#[inline(never)]
+fn published_id3v1(file: &[u8]) -> bool {
+    ends_with_id3v1(file)
+}
+
 /// Every step count in -600..600, and those about the ends of i32.
 fn step_counts() -> impl Iterator<Item = i32> {
     let ends = [
@@ -76,6 +86,7 @@ fn footed(before: usize, size: u32, flags: u32) -> Vec<u8> {
 const SIZES: [u32; 14] = [0, 1, 31, 32, 33, 63, 64, 65, 100, 127, 128, 129, 0x7FFF_FFFF, u32::MAX];
 const FLAGS: [u32; 6] = [0, 1, 0x2000_0000, 0x7FFF_FFFF, 0x8000_0000, u32::MAX];
 
+#[inline(never)]
 fn published_start(file: &[u8]) -> Option<usize> {
     let footer = file.len().checked_sub(32)?;
     ape_tag_start(&file[footer..], footer)
@@ -174,15 +185,35 @@ fn record(r: &mut Record) {
 }
 
 fn bench(b: &mut Bench) {
-    let gains: Vec<u8> = (0..10_000u32).map(|i| (i * 7) as u8).collect();
-    fn sum(gains: &[u8], f: impl Fn(u8) -> u8) -> u64 {
-        gains.iter().fold(0, |s, &g| s + f(g) as u64)
+    fn sum<T: Copy>(from: &[T], f: impl Fn(T) -> u64) -> u64 {
+        from.iter().fold(0, |s, &g| s + f(g))
     }
+    let gains: Vec<u8> = (0..10_000u32).map(|i| (i * 7) as u8).collect();
     for (flag, wrap) in [("N", false), ("W", true)] {
         b.row(
             &format!("adjust_gain_value, 10,000 gains, {flag}"),
-            || sum(&gains, |g| published_adjust(g, black_box(-7), wrap)),
-            || sum(&gains, |g| library::adjust_gain_value(g, black_box(-7), wrap)),
+            || sum(&gains, |g| published_adjust(g, black_box(-7), wrap) as u64),
+            || sum(&gains, |g| library::adjust_gain_value(g, black_box(-7), wrap) as u64),
         );
     }
+    // Files with a tag, an ID3v1 block, both and neither, in turn.
+    let mut id3v1 = vec![0x55; 200];
+    id3v1[72..75].copy_from_slice(b"TAG");
+    let four = [footed(100, 64, 0x8000_0000), id3v1, footed(0, 32, 0), vec![0x55; 200]];
+    let files: Vec<&[u8]> = (0..10_000).map(|i| &four[i % 4][..]).collect();
+    b.row(
+        "read_u32_le, 10,000 numbers",
+        || sum(&files, |f| published_number(f).map_or(0, u64::from)),
+        || sum(&files, |f| library::read_u32_le(f).map_or(0, u64::from)),
+    );
+    b.row(
+        "ends_with_id3v1, 10,000 files",
+        || sum(&files, |f| published_id3v1(f) as u64),
+        || sum(&files, |f| library::ends_with_id3v1(f) as u64),
+    );
+    b.row(
+        "ape_tag_start, 10,000 files",
+        || sum(&files, |f| published_start(f).map_or(0, |n| n as u64)),
+        || sum(&files, |f| our_start(f).map_or(0, |n| n as u64)),
+    );
 }

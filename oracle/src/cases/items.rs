@@ -7,6 +7,7 @@ use crate::ape::{
 };
 use crate::tools::{hex, Bench, Compare, Record, Rng};
 use std::cell::Cell;
+use std::hint::black_box;
 
 pub const CASE: Case = Case { name: "items", record, compare, bench };
 
@@ -192,7 +193,7 @@ mod library {
         }
     }
 
-    type Edited = Result<(usize, usize), u32>;
+    pub type Edited = Result<(usize, usize), u32>;
 
     pub fn set(area: &[u8], count: usize, key: &[u8], value: &[u8], out: &mut [u8]) -> Edited {
         edited(|i, w| unsafe {
@@ -848,7 +849,78 @@ fn record(r: &mut Record) {
     }
 }
 
+/// The edits by fixed keys: what each is of a published tag, and the library's call.
+type Edit = (&'static str, fn(&mut ApeTag), fn(&[u8], usize, &mut [u8]) -> library::Edited);
+
+const EDITS: [Edit; 5] = [
+    ("remove_replaygain", ApeTag::remove_replaygain, library::remove_replaygain),
+    ("drop_undone", |tag| UNDONE_KEYS.iter().for_each(|key| tag.remove(key)), library::drop_undone),
+    ("take_mp3gain", |tag| MP3GAIN_VALUE_KEYS.iter().for_each(|key| tag.remove(key)), library::take_mp3gain),
+    (
+        "set_undo_gain",
+        |tag| tag.set_undo_gain(3, -12, false),
+        |area, count, out| library::set_undo_gain(area, count, 3, -12, false, out),
+    ),
+    ("set_minmax", |tag| tag.set_minmax(94, 168), |area, count, out| library::set_minmax(area, count, 94, 168, out)),
+];
+
+/// The calls that look a key up, and those on a tag whose last eight items have the eight keys.
+fn bench_keys(b: &mut Bench) {
+    let value = "The quick brown fox jumps over the lazy dog";
+    for n in [41, 256] {
+        let plain = (0..n - 8).map(|i| item(&format!("KEY_{i:03}"), value));
+        let tag = tag_of(plain.chain(MP3GAIN_VALUE_KEYS.iter().map(|key| item(key, "+003,-012,N"))).collect());
+        let area = area_of(&tag);
+        let mut out = vec![0; area.len() + 100];
+        for (name, published, ours) in EDITS {
+            b.row(
+                &format!(
+                    "{name}, {n} items, the last eight with the eight keys (Rust: a copy of a tag already parsed)"
+                ),
+                || {
+                    let mut tag = tag.clone();
+                    published(&mut tag);
+                    tag
+                },
+                || ours(&area, n, &mut out),
+            );
+        }
+        b.row(
+            &format!("get_undo_gain, {n} items, the eighth from the end (Rust: a tag already parsed)"),
+            || tag.get_undo_gain(),
+            || library::get_undo_gain(&area, n),
+        );
+        b.row(
+            &format!("item_at, {n} items one after another (Rust: over a tag already parsed)"),
+            || tag.iter().fold(0, |s, i| s + black_box(i.key().len() + i.value().len())),
+            || {
+                let (mut s, mut at) = (0, 0);
+                while let Ok(Some([a, b, c, d])) = library::item_at(&area, at) {
+                    s += black_box(b - a + d - c);
+                    at = d;
+                }
+                s
+            },
+        );
+        let keys: Vec<&str> = tag.iter().map(|i| i.key()).collect();
+        b.row(
+            &format!("which_key, {n} keys, the last eight the eight keys (Rust: a search of its list)"),
+            || {
+                let place = |k: &&str| MP3GAIN_VALUE_KEYS.iter().position(|name| name.eq_ignore_ascii_case(k));
+                keys.iter().filter_map(place).sum::<usize>()
+            },
+            || keys.iter().filter_map(|k| library::which_key(k.as_bytes())).sum::<usize>(),
+        );
+        b.row(
+            &format!("is_key, {n} keys (Rust: document 01's rule)"),
+            || keys.iter().filter(|k| is_key(k.as_bytes())).count(),
+            || keys.iter().filter(|k| library::is_key(k.as_bytes())).count(),
+        );
+    }
+}
+
 fn bench(b: &mut Bench) {
+    bench_keys(b);
     let value = "The quick brown fox jumps over the lazy dog";
     let new = "+003,-012,N";
     for n in [41, 256] {
