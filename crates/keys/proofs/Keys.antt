@@ -9,7 +9,7 @@ use mathlib.Core.List.{List, [], _∷_, map, map-map}
 use lib.ListN.{length, getD, take, drop, length-map}
 use lib.Seq.{drop-cons}
 use lib.Dec.{leb, eqb}
-use borrow.Author.Tests.{lt-leb, le-leb, leb-true, ne-eqb}
+use borrow.Author.Tests.{lt-leb, le-leb, leb-true, eq-eqb, ne-eqb}
 use Rattle.lists.specs.Bytes.{among, all, same, placeOf}
 use Rattle.lists.specs.Choice.{found, isSome}
 use Rattle.lists.proofs.Same.{and-false, same-true, same-refl, same-unequal}
@@ -97,11 +97,19 @@ key-last (x ∷ a) (y ∷ b) (suc i) p q =
     rw (key-last a b i (omega arith) (omega arith)) (and-swap (eqb (upper x) (upper y)) (eqb (upper (getD a i 0)) (upper (getD b i 0))) (sameKey (take i a) (take i b)))
 
 -- what is before i: the letters just before it, and what is before them
-pub key-step : (a b : List ℕ) (i : ℕ) → 0 < i → i ≤ length a → i ≤ length b
+key-step : (a b : List ℕ) (i : ℕ) → 0 < i → i ≤ length a → i ≤ length b
     → sameKey (take i a) (take i b) ≡ (eqb (upper (getD a (i - 1) 0)) (upper (getD b (i - 1) 0)) && sameKey (take (i - 1) a) (take (i - 1) b))
 key-step a b i h p q =
     let e : i ≡ suc (i - 1) = omega arith in
     ap (λ (n : ℕ). sameKey (take n a) (take n b)) e ∙ key-last a b (i - 1) (omega arith) (omega arith)
+
+pub key-alike : (a b : List ℕ) (i : ℕ) → 0 < i → i ≤ length a → i ≤ length b → upper (getD a (i - 1) 0) ≡ upper (getD b (i - 1) 0)
+    → sameKey (take i a) (take i b) ≡ sameKey (take (i - 1) a) (take (i - 1) b)
+key-alike a b i h p q e = key-step a b i h p q ∙ rw (eq-eqb (upper (getD a (i - 1) 0)) (upper (getD b (i - 1) 0)) e)
+
+pub key-differs : (a b : List ℕ) (i : ℕ) → 0 < i → i ≤ length a → i ≤ length b → (upper (getD a (i - 1) 0) ≡ upper (getD b (i - 1) 0) → ⊥)
+    → sameKey (take i a) (take i b) ≡ false
+key-differs a b i h p q n = key-step a b i h p q ∙ rw (ne-eqb (upper (getD a (i - 1) 0)) (upper (getD b (i - 1) 0)) n)
 
 pub key-nil : sameKey [] [] ≡ true
 unfolding sameKey same upperAll

@@ -96,8 +96,10 @@ pub fn same_key(a: &[u8], b: &[u8]) -> bool
     let mut i = a.len();
     while 0 < i {
         i -= 1;
-        if upper_case(a[i]) != upper_case(b[i]) {
-            return false;
+        if a[i] != b[i] {
+            if upper_case(a[i]) != upper_case(b[i]) {
+                return false;
+            }
         }
     }
     true

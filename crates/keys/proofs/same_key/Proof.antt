@@ -3,11 +3,10 @@ use mathlib.Core.Path.{_≡_, refl, ap, sym, _∙_}
 use Prim.Native.Nat.{ℕ, _≤_, _-_}
 use native.Mathlib.Omega.{arith}
 use borrow.Author.Needs.{needs}
-use borrow.Author.Tests.{eq-eqb, ne-eqb}
-use lib.ListN.{length, take, getD}
+use lib.ListN.{length, take}
 use lib.Seq.{take-length}
 use Rattle.keys.specs.Keys.{upper, sameKey}
-use Rattle.keys.proofs.Keys.{key-unequal, key-step, key-nil}
+use Rattle.keys.proofs.Keys.{key-unequal, key-alike, key-differs, key-nil}
 use Rattle.keys.proofs.same_key.Statement.{statement}
 use Rattle.keys.proofs.same_key.Tie as tie
 
@@ -28,17 +27,26 @@ loop-holds c =
 
 returns-2 : tie.Need-returns-2 Inv-loop μ-loop
 returns-2 c =
-    let l = c .before .before .before .before .before .before in
+    let l = c .before .before .before .before .before .before .before .before .before in
     let g = l .before .before .before .before .args in
-    sym (l .loop .inv .2 ∙ rw (key-step (g .a .now) (g .b .now) (l .loop .i) (omega arith) (omega arith) (omega arith), ne-eqb (upper (getD (g .a .now) (l .loop .i - 1) 0)) (upper (getD (g .b .now) (l .loop .i - 1) 0)) (λ e. c .if2 .taken (c .before .before .before .upper-case .ensures ∙ e ∙ sym (c .before .upper-case2 .ensures)))))
+    sym (l .loop .inv .2 ∙ key-differs (g .a .now) (g .b .now) (l .loop .i) (omega arith) (omega arith) (omega arith) (λ e. c .if3 .taken (c .before .before .before .upper-case .ensures ∙ e ∙ sym (c .before .upper-case2 .ensures))))
 
 loop-again : tie.Need-loop-again Inv-loop μ-loop
 loop-again c =
-    let l = c .before .before .before .before .before .before in
+    let l = c .before .before .before .before .before .before .before .before .before in
     let g = l .before .before .before .before .args in (
       l .loop .inv .0,
       omega arith,
-      l .loop .inv .2 ∙ rw (key-step (g .a .now) (g .b .now) (l .loop .i) (omega arith) (omega arith) (omega arith), eq-eqb (upper (getD (g .a .now) (l .loop .i - 1) 0)) (upper (getD (g .b .now) (l .loop .i - 1) 0)) (sym (c .before .before .before .upper-case .ensures) ∙ c .if2 .left ∙ c .before .upper-case2 .ensures)),
+      l .loop .inv .2 ∙ key-alike (g .a .now) (g .b .now) (l .loop .i) (omega arith) (omega arith) (omega arith) (sym (c .before .before .before .upper-case .ensures) ∙ c .if3 .left ∙ c .before .upper-case2 .ensures),
+    )
+
+loop-again-2 : tie.Need-loop-again-2 Inv-loop μ-loop
+loop-again-2 c =
+    let l = c .before .before .before .before in
+    let g = l .before .before .before .before .args in (
+      l .loop .inv .0,
+      omega arith,
+      l .loop .inv .2 ∙ key-alike (g .a .now) (g .b .now) (l .loop .i) (omega arith) (omega arith) (omega arith) (ap upper (c .if2 .left)),
     )
 
 returns-3 : tie.Need-returns-3 Inv-loop μ-loop
@@ -57,10 +65,14 @@ same-key-spec =
     loop-holds
     (λ c. omega arith)
     (λ c. omega arith)
+    (λ c. omega arith)
+    (λ c. omega arith)
     (λ c κs. search needs)
     (λ c. omega arith)
     (λ c κs. search needs)
     returns-2
     (λ c. omega arith)
     loop-again
+    (λ c. omega arith)
+    loop-again-2
     returns-3)
