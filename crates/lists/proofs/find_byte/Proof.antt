@@ -17,7 +17,7 @@ abbrev μ-loop : tie.MeasureT-loop
 
 from-b : (c : tie.Else2 Inv-loop μ-loop)
     → let l = c .before .before .before in let g = l .before .before .before .args in
-      g .at + placeOf (g .byte) (drop (g .at) (g .s .now)) ≡ l .loop .a + 1 + placeOf (g .byte) (drop (l .loop .a + 1) (g .s .now))
+    g .at + placeOf (g .byte) (drop (g .at) (g .s .now)) ≡ l .loop .a + 1 + placeOf (g .byte) (drop (l .loop .a + 1) (g .s .now))
 from-b c =
     let l = c .before .before .before in
     let g = l .before .before .before .args in
@@ -25,7 +25,7 @@ from-b c =
 
 from-c : (c : tie.Else3 Inv-loop μ-loop)
     → let l = c .before .before .before .before .before in let g = l .before .before .before .args in
-      g .at + placeOf (g .byte) (drop (g .at) (g .s .now)) ≡ l .loop .a + 1 + 1 + placeOf (g .byte) (drop (l .loop .a + 1 + 1) (g .s .now))
+    g .at + placeOf (g .byte) (drop (g .at) (g .s .now)) ≡ l .loop .a + 1 + 1 + placeOf (g .byte) (drop (l .loop .a + 1 + 1) (g .s .now))
 from-c c =
     let l = c .before .before .before .before .before in
     let g = l .before .before .before .args in
@@ -33,7 +33,7 @@ from-c c =
 
 from-d : (c : tie.Else4 Inv-loop μ-loop)
     → let l = c .before .before .before .before .before .before .before in let g = l .before .before .before .args in
-      g .at + placeOf (g .byte) (drop (g .at) (g .s .now)) ≡ l .loop .a + 1 + 1 + 1 + placeOf (g .byte) (drop (l .loop .a + 1 + 1 + 1) (g .s .now))
+    g .at + placeOf (g .byte) (drop (g .at) (g .s .now)) ≡ l .loop .a + 1 + 1 + 1 + placeOf (g .byte) (drop (l .loop .a + 1 + 1 + 1) (g .s .now))
 from-d c =
     let l = c .before .before .before .before .before .before .before in
     let g = l .before .before .before .args in
