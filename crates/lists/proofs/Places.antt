@@ -27,13 +27,15 @@ pub place-end : (c : ℕ) (s : List ℕ) (i : ℕ) → length s ≤ i → placeO
 unfolding placeOf
 place-end c s i h = rw (drop-of-length-le s {i = i} h)
 
--- a search from `at` that has come to i: the byte is there, or the search goes on behind it
-pub place-here : (c : ℕ) (s : List ℕ) (at i : ℕ) → at + placeOf c (drop at s) ≡ i + placeOf c (drop i s) → i < length s → getD s i 0 ≡ c
-    → i ≡ at + placeOf c (drop at s)
+-- a search for c from `at` has come to i: the first from `at` is the first from i
+abbrev pub CameTo : ℕ → List ℕ → ℕ → ℕ → Type 0
+CameTo c s at i = at + placeOf c (drop at s) ≡ i + placeOf c (drop i s)
+
+-- c is there, or the search goes on behind it
+pub place-here : (c : ℕ) (s : List ℕ) (at i : ℕ) → CameTo c s at i → i < length s → getD s i 0 ≡ c → i ≡ at + placeOf c (drop at s)
 place-here c s at i e h t = omega (arith, e, place-hit c s i h t)
 
-pub place-next : (c : ℕ) (s : List ℕ) (at i : ℕ) → at + placeOf c (drop at s) ≡ i + placeOf c (drop i s) → i < length s → (getD s i 0 ≡ c → ⊥)
-    → at + placeOf c (drop at s) ≡ i + 1 + placeOf c (drop (i + 1) s)
+pub place-next : (c : ℕ) (s : List ℕ) (at i : ℕ) → CameTo c s at i → i < length s → (getD s i 0 ≡ c → ⊥) → CameTo c s at (i + 1)
 place-next c s at i e h t = omega (arith, e, place-miss c s i h t)
 
 -- ---- what a place is

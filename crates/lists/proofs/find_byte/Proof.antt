@@ -3,21 +3,20 @@ use mathlib.Core.Path.{_≡_, refl, sym, _∙_}
 use Prim.Native.Nat.{_≤_, _+_, _-_}
 use native.Mathlib.Omega.{arith}
 use borrow.Author.Needs.{needs}
-use lib.ListN.{length, drop}
-use Rattle.lists.specs.Bytes.{placeOf}
-use Rattle.lists.proofs.Places.{place-here, place-next}
+use lib.ListN.{length}
+use Rattle.lists.proofs.Places.{CameTo, place-here, place-next}
 use Rattle.lists.proofs.find_byte.Statement.{statement}
 use Rattle.lists.proofs.find_byte.Tie as tie
 
 abbrev Inv-loop : tie.InvT-loop
-Inv-loop s at byte last a₀ a = at + placeOf byte (drop at s) ≡ a + placeOf byte (drop a s)
+Inv-loop s at byte last a₀ a = CameTo byte s at a
 
 abbrev μ-loop : tie.MeasureT-loop
 μ-loop s at byte last a₀ a = length s - a
 
 from-b : (c : tie.Else2 Inv-loop μ-loop)
     → let l = c .before .before .before in let g = l .before .before .before .args in
-    g .at + placeOf (g .byte) (drop (g .at) (g .s .now)) ≡ l .loop .a + 1 + placeOf (g .byte) (drop (l .loop .a + 1) (g .s .now))
+    CameTo (g .byte) (g .s .now) (g .at) (l .loop .a + 1)
 from-b c =
     let l = c .before .before .before in
     let g = l .before .before .before .args in
@@ -25,7 +24,7 @@ from-b c =
 
 from-c : (c : tie.Else3 Inv-loop μ-loop)
     → let l = c .before .before .before .before .before in let g = l .before .before .before .args in
-    g .at + placeOf (g .byte) (drop (g .at) (g .s .now)) ≡ l .loop .a + 1 + 1 + placeOf (g .byte) (drop (l .loop .a + 1 + 1) (g .s .now))
+    CameTo (g .byte) (g .s .now) (g .at) (l .loop .a + 1 + 1)
 from-c c =
     let l = c .before .before .before .before .before in
     let g = l .before .before .before .args in
@@ -33,7 +32,7 @@ from-c c =
 
 from-d : (c : tie.Else4 Inv-loop μ-loop)
     → let l = c .before .before .before .before .before .before .before in let g = l .before .before .before .args in
-    g .at + placeOf (g .byte) (drop (g .at) (g .s .now)) ≡ l .loop .a + 1 + 1 + 1 + placeOf (g .byte) (drop (l .loop .a + 1 + 1 + 1) (g .s .now))
+    CameTo (g .byte) (g .s .now) (g .at) (l .loop .a + 1 + 1 + 1)
 from-d c =
     let l = c .before .before .before .before .before .before .before in
     let g = l .before .before .before .args in

@@ -2,14 +2,13 @@
 use mathlib.Core.Path.{_≡_, refl}
 use Prim.Native.Nat.{_+_, _-_}
 use native.Mathlib.Omega.{arith}
-use lib.ListN.{length, drop}
-use Rattle.lists.specs.Bytes.{placeOf}
-use Rattle.lists.proofs.Places.{place-here, place-next, place-end}
+use lib.ListN.{length}
+use Rattle.lists.proofs.Places.{CameTo, place-here, place-next, place-end}
 use Rattle.lists.proofs.find_each.Statement.{statement}
 use Rattle.lists.proofs.find_each.Tie as tie
 
 abbrev Inv-loop : tie.InvT-loop
-Inv-loop s at byte i₀ i = at + placeOf byte (drop at s) ≡ i + placeOf byte (drop i s)
+Inv-loop s at byte i₀ i = CameTo byte s at i
 
 abbrev μ-loop : tie.MeasureT-loop
 μ-loop s at byte i₀ i = length s - i
