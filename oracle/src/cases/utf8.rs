@@ -247,8 +247,13 @@ fn bench(b: &mut Bench) {
     let random = rng.bytes(n);
     for (name, s) in [("ASCII", &ascii), ("European", &european), ("CJK", &cjk), ("random bytes", &random)] {
         b.row(&format!("is_utf8, 1 MiB of {name}"), || std::str::from_utf8(s).is_ok(), || library::is_utf8(s));
-        // The Rust lends the text itself where it is UTF-8; both sides end with the text in the caller's bytes.
         let size = String::from_utf8_lossy(s).len();
+        b.row(
+            &format!("lossy_size, 1 MiB of {name}"),
+            || String::from_utf8_lossy(s).len(),
+            || library::lossy_size(s, size),
+        );
+        // The Rust lends the text itself where it is UTF-8; both sides end with the text in the caller's bytes.
         for (room, of) in [(3 * s.len(), "three times the room"), (size, "exact room")] {
             let (mut x, mut y) = (vec![0; room], vec![0; room]);
             b.row(
