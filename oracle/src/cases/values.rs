@@ -837,6 +837,11 @@ fn published_leaves(key: &str, value: &str, steps: i32) -> bool {
     range_wraps_out(key, value, steps)
 }
 
+#[inline(never)]
+fn published_db(steps: i32) -> f64 {
+    steps_to_db(steps)
+}
+
 fn bench(b: &mut Bench) {
     let undo = black_box("+003,-012,N");
     b.row("undo text parsed, numbers and flag", || published_parse(undo), || library::parse_undo(undo.as_bytes()));
@@ -871,5 +876,16 @@ fn bench(b: &mut Bench) {
         "range_wraps_out",
         || published_leaves(MINMAX, value, steps),
         || library::range_wraps_out(MINMAX.as_bytes(), value.as_bytes(), steps),
+    );
+    fn each<A>(steps: &[i32], f: impl Fn(i32) -> A) {
+        for &n in steps {
+            black_box(f(n));
+        }
+    }
+    let steps: Vec<i32> = (0..10_000).map(turn).collect();
+    b.row(
+        "steps_to_db, 10,000 steps (Rust: the stand-in's product in f64)",
+        || each(&steps, published_db),
+        || each(&steps, library::steps_to_db),
     );
 }
