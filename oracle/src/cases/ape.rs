@@ -463,6 +463,11 @@ fn record(r: &mut Record) {
     }
 }
 
+#[inline(never)]
+fn published_parts(file: &[u8]) -> (&[u8], &[u8]) {
+    reach::parts(file)
+}
+
 fn bench(b: &mut Bench) {
     let value = "The quick brown fox jumps over the lazy dog";
     for n in [1, 41, 256] {
@@ -483,6 +488,14 @@ fn bench(b: &mut Bench) {
     let mut area = vec![0; 3 * file.len()];
     b.row("read_ape_tag, 1 MiB of text", || read_ape_tag(&file), || library::read_ape_tag(&file, &mut area));
     let tag = tag_of((0..41).map(|i| item(&format!("KEY_{i:03}"), value)).collect());
+    for (size, name) in [(4 << 10, "4 KiB"), (1 << 20, "1 MiB")] {
+        let file = reach::replace(&vec![0x55; size], &tag);
+        b.row(
+            &format!("split_ape_tag, {name} before a tag"),
+            || published_parts(&file),
+            || library::split_ape_tag(&file),
+        );
+    }
     let area = area_of(&tag);
     for (size, name) in [(4 << 10, "4 KiB"), (1 << 20, "1 MiB"), ((16 << 20) - 8192, "16 MiB")] {
         let file = vec![0x55; size];
