@@ -473,6 +473,8 @@ fn bench(b: &mut Bench) {
     let mut items: Vec<_> = (0..40).map(|i| item(&format!("KEY_{i:03}"), value)).collect();
     items.push(item("MP3GAIN_UNDO", "+003,-002,W"));
     let tag = tag_of(items);
+    let file = reach::replace(&vec![0x55; 4 << 10], &tag);
+    b.row("gate on a file of 4 KiB, 41 items (Rust: read; no gate)", || read_ape_tag(&file), || library::gate(&file));
     for (size, name) in [(4 << 10, "4 KiB"), (1 << 20, "1 MiB"), ((16 << 20) - 8192, "16 MiB")] {
         let file = reach::replace(&vec![0x55; size], &tag);
         let mut out = vec![0; file.len() + 100];
