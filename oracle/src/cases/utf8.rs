@@ -222,6 +222,20 @@ fn record(r: &mut Record) {
         let n = rng.below(200);
         both(&mixed(&mut rng, n));
     }
+    // `size TEXT ROOM SIZE`: about the least room that is enough, `none` where it is less.
+    let mut sizes = |s: &[u8]| {
+        let size = published(s).1.len();
+        for room in [0, size / 2, size.saturating_sub(1), size, size + 1, 3 * s.len()] {
+            let answer = if size <= room { size.to_string() } else { "none".into() };
+            r.line(&["size".into(), hex(s), room.to_string(), answer]);
+        }
+    };
+    EXAMPLES.into_iter().for_each(&mut sizes);
+    sizes(b"plain ASCII");
+    for _ in 0..50 {
+        let n = rng.below(200);
+        sizes(&mixed(&mut rng, n));
+    }
 }
 
 fn bench(b: &mut Bench) {
