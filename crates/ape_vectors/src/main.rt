@@ -85,6 +85,25 @@ fn serialize(text: &[u8], at: usize) -> bool {
     wrote(text, vectors::next_word(text, area_at), w, &out)
 }
 
+// `split FILE FRONT FROM TO`: where what precedes the tag ends, and where what follows it stands, or `none`.
+fn split(text: &[u8], at: usize) -> bool {
+    let mut file = [0u8; 4096];
+    let n = vectors::hex_bytes(text, at, &mut file);
+    let front = vectors::next_word(text, at);
+    let from = vectors::next_word(text, front);
+    let cut = ape_write::split_ape_tag(&file[0..n]);
+    if cut.front as u64 != vectors::unsigned(text, front) {
+        return false;
+    }
+    if lists::starts_with(text, from, b"none") {
+        return cut.from == cut.to;
+    }
+    if cut.from as u64 != vectors::unsigned(text, from) {
+        return false;
+    }
+    cut.to as u64 == vectors::unsigned(text, vectors::next_word(text, from))
+}
+
 // Whether the answer in the line at this place is the library's.
 fn agrees(text: &[u8], at: usize) -> bool {
     let from = vectors::next_word(text, at);
@@ -99,6 +118,9 @@ fn agrees(text: &[u8], at: usize) -> bool {
     }
     if lists::starts_with(text, at, b"serialize ") {
         return serialize(text, from);
+    }
+    if lists::starts_with(text, at, b"split ") {
+        return split(text, from);
     }
     false
 }

@@ -1,9 +1,11 @@
 // Replays the recorded answers for crates edit, level, undo and area_shift.
 use ape_write::Written;
 use area_edit::Edited;
+use edit::Editable;
 use frame::GainMode;
 use frame::GainSteps;
 use level::LevelAnswer;
+use replies::Refusal;
 use vectors::Replay;
 use vectors::is_hex;
 
@@ -210,6 +212,30 @@ fn shift(text: &[u8], at: usize) -> bool {
     )
 }
 
+// `gate FILE REPLY START END COUNT`, the last three 0 where it is refused.
+fn gate(text: &[u8], at: usize) -> bool {
+    let mut file = [0u8; 4096];
+    let n = vectors::hex_bytes(text, at, &mut file);
+    let reply_at = vectors::next_word(text, at);
+    let reply = vectors::unsigned(text, reply_at);
+    let g = edit::gate(&file[0..n]);
+    let Editable::Items { start, end, count } = g else {
+        return reply == replies::number(Refusal::NotEditable) as u64;
+    };
+    if reply != 0 {
+        return false;
+    }
+    let start_at = vectors::next_word(text, reply_at);
+    if vectors::unsigned(text, start_at) != start as u64 {
+        return false;
+    }
+    let end_at = vectors::next_word(text, start_at);
+    if vectors::unsigned(text, end_at) != end as u64 {
+        return false;
+    }
+    vectors::unsigned(text, vectors::next_word(text, end_at)) == count as u64
+}
+
 // Whether the answer in the line at this place is the library's.
 fn agrees(text: &[u8], at: usize) -> bool {
     let from = vectors::next_word(text, at);
@@ -227,6 +253,9 @@ fn agrees(text: &[u8], at: usize) -> bool {
     }
     if lists::starts_with(text, at, b"shift ") {
         return shift(text, from);
+    }
+    if lists::starts_with(text, at, b"gate ") {
+        return gate(text, from);
     }
     false
 }

@@ -60,6 +60,24 @@ fn lossy(text: &[u8], at: usize) -> bool {
     writes(&s[0..n], m, &wanted)
 }
 
+// `size TEXT ROOM SIZE`: how long the conversion is, or `none` where there is not so much room.
+fn size(text: &[u8], at: usize) -> bool {
+    let mut s = [0u8; 1024];
+    let n = vectors::hex_bytes(text, at, &mut s);
+    let room = vectors::next_word(text, at);
+    let wanted = vectors::next_word(text, room);
+    let x = utf8::lossy_size(&s[0..n], vectors::unsigned(text, room) as usize);
+    match x {
+        Converted::Done(found) => {
+            if lists::starts_with(text, wanted, b"none") {
+                return false;
+            }
+            found as u64 == vectors::unsigned(text, wanted)
+        }
+        Converted::NoRoom => lists::starts_with(text, wanted, b"none"),
+    }
+}
+
 // Whether the answer in the line at this place is the library's.
 fn agrees(text: &[u8], at: usize) -> bool {
     let from = vectors::next_word(text, at);
@@ -68,6 +86,9 @@ fn agrees(text: &[u8], at: usize) -> bool {
     }
     if lists::starts_with(text, at, b"lossy ") {
         return lossy(text, from);
+    }
+    if lists::starts_with(text, at, b"size ") {
+        return size(text, from);
     }
     false
 }

@@ -1,5 +1,5 @@
-// Replays the published Rust's recorded answers for crate values. The lines on slips, which the Rust does not have, are a second
-// reading of document 01.
+// Replays the published Rust's recorded answers for crates values and decibels. The lines on slips, which the Rust does not have, and on
+// exact decibels, where it has f64, are a second reading of document 01.
 use decimal::Text;
 use frame::GainMode;
 use frame::GainSteps;
@@ -159,6 +159,20 @@ fn slip_line(text: &[u8], at: usize) -> bool {
     }
 }
 
+// `db STEPS FLAG MILLIONTHS REST`.
+fn db(text: &[u8], at: usize) -> bool {
+    let minus = vectors::next_word(text, at);
+    let millionths = vectors::next_word(text, minus);
+    let d = decibels::steps_to_db(GainSteps(vectors::signed(text, at)));
+    if d.1 != vectors::unsigned(text, millionths) {
+        return false;
+    }
+    if d.2 != vectors::unsigned(text, vectors::next_word(text, millionths)) {
+        return false;
+    }
+    is_flag(text, minus, d.0)
+}
+
 // Whether the answer in the line at this place is the library's.
 fn agrees(text: &[u8], at: usize) -> bool {
     let from = vectors::next_word(text, at);
@@ -182,6 +196,9 @@ fn agrees(text: &[u8], at: usize) -> bool {
     }
     if lists::starts_with(text, at, b"slip ") {
         return slip_line(text, from);
+    }
+    if lists::starts_with(text, at, b"db ") {
+        return db(text, from);
     }
     false
 }

@@ -100,15 +100,17 @@ pub mod library {
 /// What fills an output before a call, to see which bytes it changed.
 const FILL: u8 = 0xC3;
 
+/// The bytes of an item, whose numbers need not be right.
+fn item_bytes(length: u32, flags: u32, key: &[u8], value: &[u8]) -> Vec<u8> {
+    [&length.to_le_bytes()[..], &flags.to_le_bytes(), key, &[0], value].concat()
+}
+
 /// The item area of a tag.
 pub fn area_of(tag: &ApeTag) -> Vec<u8> {
     let mut area = Vec::new();
     for item in &tag.items {
-        area.extend_from_slice(&(item.value().len() as u32).to_le_bytes());
-        area.extend_from_slice(&[0; 4]);
-        area.extend_from_slice(item.key().as_bytes());
-        area.push(0);
-        area.extend_from_slice(item.value().as_bytes());
+        let (key, value) = (item.key().as_bytes(), item.value().as_bytes());
+        area.extend(item_bytes(value.len() as u32, 0, key, value));
     }
     area
 }
@@ -277,6 +279,70 @@ pub fn random_file(rng: &mut Rng) -> Vec<u8> {
         file.truncate(rng.below(file.len() + 1));
     }
     file
+}
+
+/// Files about each boundary: of their length, the footer's place and numbers, and the items.
+pub fn edge_files() -> Vec<Vec<u8>> {
+    let id3v1 = [&b"TAG"[..], &[0; 125]].concat();
+    let (mut other, mut marked) = (id3v1.clone(), id3v1.clone());
+    other[2] = b'f';
+    marked[96..104].copy_from_slice(b"APETAGEX");
+    let mut files = vec![vec![], id3v1[..127].to_vec(), id3v1.clone(), [b"\x55", &id3v1[..]].concat()];
+    // The footer alone: one byte too few, just enough, and one byte before it.
+    let alone = block(32, 0, 0, 2000);
+    for rest in [&[][..], &id3v1] {
+        files.extend([[&alone[1..], rest].concat(), [&alone, rest].concat(), [b"\x55", &alone[..], rest].concat()]);
+    }
+    // What stands before the tag and behind it.
+    let area = item_bytes(1, 0, b"AB", b"c");
+    let exact = area.len() as u32 + 32;
+    let good = [&area[..], &block(exact, 1, 0, 2000)].concat();
+    for front in [&[][..], b"audio", &[b"audio", &id3v1[..]].concat()] {
+        for rest in [&[][..], &id3v1, &id3v1[..127], &other, &marked] {
+            files.push([front, &good, rest].concat());
+        }
+    }
+    // The footer's size, with and without a header to count, about each place where the tag could start; its other numbers.
+    let front = vec![0x55; 40];
+    let all = front.len() as u32 + exact;
+    let mut footers = Vec::new();
+    for flags in [0, 0x8000_0000] {
+        for size in
+            [0, 1, 31, 32, 33, exact - 1, exact, exact + 1, all - 33, all - 32, all - 31, all, all + 1, u32::MAX]
+        {
+            footers.push(block(size, 1, flags, 2000));
+        }
+    }
+    footers.extend([0, 2, 256, 257, u32::MAX].map(|count| block(exact, count, 0, 2000)));
+    footers.extend([0x2000_0000, 0x7FFF_FFFF, 0xA000_0000, u32::MAX].map(|flags| block(exact, 1, flags, 2000)));
+    footers.extend([0, 1000, 1999, 2001, u32::MAX].map(|version| block(exact, 1, 0, version)));
+    for footer in footers {
+        for rest in [&[][..], &id3v1] {
+            files.push([&front, &area, &footer, rest].concat());
+        }
+    }
+    // The items: their flags, lengths and texts, alone and behind a good one, and how many there are.
+    let mut items = Vec::new();
+    items.extend((0..32).step_by(7).map(|bit| item_bytes(1, 1 << bit, b"AB", b"c")));
+    items.extend([0, 2, u32::MAX].map(|length| item_bytes(length, 0, b"AB", b"c")));
+    items.extend([&area[..8], &area[..10], &area[..11]].map(|cut| cut.to_vec()));
+    for text in ["", "A", "\u{E9}", "\u{20AC}", "\u{10FFFF}"].map(str::as_bytes) {
+        items.push(item_bytes(text.len() as u32, 0, text, text));
+    }
+    for text in [&b"\x80"[..], b"\xFF", b"A\xC3", b"\xE2\x82A", b"\xF0\x80", b"\xF0\x90\x80", b"\xED\xA0\x80"] {
+        items.push(item_bytes(1, 0, text, b"c"));
+        items.push(item_bytes(text.len() as u32, 0, b"AB", text));
+    }
+    let mut areas = vec![(vec![], 0)];
+    for item in items {
+        areas.push(([&area, &item[..]].concat(), 2));
+        areas.push((item, 1));
+    }
+    areas.extend([255, 256, 257].map(|count| (item_bytes(0, 0, b"", b"").repeat(count as usize), count)));
+    for (area, count) in areas {
+        files.push([b"audio", &area[..], &block(area.len() as u32 + 32, count, 0, 2000)].concat());
+    }
+    files
 }
 
 fn both(c: &mut Compare, file: &[u8], tags: &[ApeTag]) {
@@ -461,6 +527,17 @@ fn record(r: &mut Record) {
     for tag in &tags {
         r.line(&words(&[&"serialize", &tag.len(), &hex(&area_of(tag)), &hex(&reach::serialize(tag))]));
     }
+    // `split FILE FRONT FROM TO`, or `split FILE FRONT none` where nothing follows the tag.
+    for file in files.iter().chain(&edge_files()) {
+        let (front, rest) = published_split(file);
+        let rest = rest.map_or("none".to_string(), |(from, to)| format!("{from} {to}"));
+        r.line(&words(&[&"split", &hex(file), &front, &rest]));
+    }
+}
+
+#[inline(never)]
+fn published_parts(file: &[u8]) -> (&[u8], &[u8]) {
+    reach::parts(file)
 }
 
 fn bench(b: &mut Bench) {
@@ -483,6 +560,14 @@ fn bench(b: &mut Bench) {
     let mut area = vec![0; 3 * file.len()];
     b.row("read_ape_tag, 1 MiB of text", || read_ape_tag(&file), || library::read_ape_tag(&file, &mut area));
     let tag = tag_of((0..41).map(|i| item(&format!("KEY_{i:03}"), value)).collect());
+    for (size, name) in [(4 << 10, "4 KiB"), (1 << 20, "1 MiB")] {
+        let file = reach::replace(&vec![0x55; size], &tag);
+        b.row(
+            &format!("split_ape_tag, {name} before a tag"),
+            || published_parts(&file),
+            || library::split_ape_tag(&file),
+        );
+    }
     let area = area_of(&tag);
     for (size, name) in [(4 << 10, "4 KiB"), (1 << 20, "1 MiB"), ((16 << 20) - 8192, "16 MiB")] {
         let file = vec![0x55; size];

@@ -4,7 +4,7 @@
 //! The editing gate and the refusals are not in the published Rust: they are read here a second time from document 01. What an
 //! accepted call does to the tag, the file and the gains is the published Rust's.
 
-use super::ape::{area_of, is_area, item, random_file, tag_of, written};
+use super::ape::{area_of, edge_files, is_area, item, random_file, tag_of, written};
 use super::{level, shift, Case};
 use crate::ape::{find_ape_footer, parse_undo_values, parse_undo_wrap, reach, read_ape_tag, ApeTag};
 use crate::frame::{adjust_gain_value, read_u32_le, GainMode};
@@ -466,6 +466,13 @@ fn record(r: &mut Record) {
     }
     shift::record(r);
     level::record(r);
+    // `gate FILE REPLY START END COUNT`.
+    let random: Vec<_> = (0..100).map(|_| edited_file(&mut r.rng)).collect();
+    for file in edge_files().iter().chain(&random) {
+        let (reply, (start, end, count)) = gate_places(file).map_or_else(|n| (n, (0, 0, 0)), |places| (0, places));
+        let numbers = [reply as usize, start, end, count].map(|n| n.to_string());
+        r.line(&[&["gate".into(), hex(file)], &numbers[..]].concat());
+    }
 }
 
 fn bench(b: &mut Bench) {
@@ -473,6 +480,8 @@ fn bench(b: &mut Bench) {
     let mut items: Vec<_> = (0..40).map(|i| item(&format!("KEY_{i:03}"), value)).collect();
     items.push(item("MP3GAIN_UNDO", "+003,-002,W"));
     let tag = tag_of(items);
+    let file = reach::replace(&vec![0x55; 4 << 10], &tag);
+    b.row("gate on a file of 4 KiB, 41 items (Rust: read; no gate)", || read_ape_tag(&file), || library::gate(&file));
     for (size, name) in [(4 << 10, "4 KiB"), (1 << 20, "1 MiB"), ((16 << 20) - 8192, "16 MiB")] {
         let file = reach::replace(&vec![0x55; size], &tag);
         let mut out = vec![0; file.len() + 100];

@@ -222,6 +222,20 @@ fn record(r: &mut Record) {
         let n = rng.below(200);
         both(&mixed(&mut rng, n));
     }
+    // `size TEXT ROOM SIZE`: about the least room that is enough, `none` where it is less.
+    let mut sizes = |s: &[u8]| {
+        let size = published(s).1.len();
+        for room in [0, size / 2, size.saturating_sub(1), size, size + 1, 3 * s.len()] {
+            let answer = if size <= room { size.to_string() } else { "none".into() };
+            r.line(&["size".into(), hex(s), room.to_string(), answer]);
+        }
+    };
+    EXAMPLES.into_iter().for_each(&mut sizes);
+    sizes(b"plain ASCII");
+    for _ in 0..50 {
+        let n = rng.below(200);
+        sizes(&mixed(&mut rng, n));
+    }
 }
 
 fn bench(b: &mut Bench) {
@@ -247,8 +261,13 @@ fn bench(b: &mut Bench) {
     let random = rng.bytes(n);
     for (name, s) in [("ASCII", &ascii), ("European", &european), ("CJK", &cjk), ("random bytes", &random)] {
         b.row(&format!("is_utf8, 1 MiB of {name}"), || std::str::from_utf8(s).is_ok(), || library::is_utf8(s));
-        // The Rust lends the text itself where it is UTF-8; both sides end with the text in the caller's bytes.
         let size = String::from_utf8_lossy(s).len();
+        b.row(
+            &format!("lossy_size, 1 MiB of {name}"),
+            || String::from_utf8_lossy(s).len(),
+            || library::lossy_size(s, size),
+        );
+        // The Rust lends the text itself where it is UTF-8; both sides end with the text in the caller's bytes.
         for (room, of) in [(3 * s.len(), "three times the room"), (size, "exact room")] {
             let (mut x, mut y) = (vec![0; room], vec![0; room]);
             b.row(

@@ -698,15 +698,17 @@ fn compare_slips(c: &mut Compare) {
     }
 }
 
-/// Steps as decibels, exactly; for steps in -255..255 f64 gives the same millionth.
+/// Steps as decibels by document 01's step, exactly.
+fn exact_db(steps: i64) -> (bool, u64, u64) {
+    let units = (steps as i128 * 1_505_149_978_319_906).unsigned_abs();
+    (steps < 0, (units / 1_000_000_000) as u64, (units % 1_000_000_000) as u64)
+}
+
+/// Steps as decibels; for steps in -255..255 f64 gives the same millionth.
 fn compare_steps(c: &mut Compare) {
-    let exact = |steps: i64| {
-        let units = (steps as i128 * 1_505_149_978_319_906).unsigned_abs();
-        (steps < 0, (units / 1_000_000_000) as u64, (units % 1_000_000_000) as u64)
-    };
     let random: Vec<i32> = (0..c.count / 10).map(|_| any_i32(&mut c.rng)).collect();
     for steps in (-1000..=1000).chain(ENDS).chain(random) {
-        c.numbers("steps_to_db", &[steps as i64], |n| exact(n[0]), |n| library::steps_to_db(n[0] as i32));
+        c.numbers("steps_to_db", &[steps as i64], |n| exact_db(n[0]), |n| library::steps_to_db(n[0] as i32));
     }
     for steps in -255..=255 {
         c.numbers(
@@ -813,6 +815,12 @@ fn record(r: &mut Record) {
         let (reply, (left, right, wrap)) = slip_reading(&text).map_or_else(|e| (e, (0, 0, false)), |w| (0, w));
         r.line(&words(&[&"slip", &hex(&text), &reply, &left, &right, &(wrap as u8)]));
     }
+    // `db STEPS FLAG MILLIONTHS REST`: the Rust has f64, so exactly, by document 01's step.
+    let random: Vec<i32> = (0..100).map(|_| any_i32(&mut r.rng)).collect();
+    for steps in (-255..=255).chain(ENDS).chain(random) {
+        let (minus, millionths, rest) = exact_db(steps as i64);
+        r.line(&words(&[&"db", &steps, &(minus as u8), &millionths, &rest]));
+    }
 }
 
 // ---- times
@@ -835,6 +843,11 @@ fn published_shifted(key: &str, value: &str, steps: i32) -> Option<String> {
 #[inline(never)]
 fn published_leaves(key: &str, value: &str, steps: i32) -> bool {
     range_wraps_out(key, value, steps)
+}
+
+#[inline(never)]
+fn published_db(steps: i32) -> f64 {
+    steps_to_db(steps)
 }
 
 fn bench(b: &mut Bench) {
@@ -871,5 +884,16 @@ fn bench(b: &mut Bench) {
         "range_wraps_out",
         || published_leaves(MINMAX, value, steps),
         || library::range_wraps_out(MINMAX.as_bytes(), value.as_bytes(), steps),
+    );
+    fn each<A>(steps: &[i32], f: impl Fn(i32) -> A) {
+        for &n in steps {
+            black_box(f(n));
+        }
+    }
+    let steps: Vec<i32> = (0..10_000).map(turn).collect();
+    b.row(
+        "steps_to_db, 10,000 steps (Rust: the stand-in's product in f64)",
+        || each(&steps, published_db),
+        || each(&steps, library::steps_to_db),
     );
 }
