@@ -540,17 +540,26 @@ fn published_parts(file: &[u8]) -> (&[u8], &[u8]) {
     reach::parts(file)
 }
 
+#[inline(never)]
+fn published_footer(file: &[u8]) -> Option<usize> {
+    find_ape_footer(file)
+}
+
 fn bench(b: &mut Bench) {
     let value = "The quick brown fox jumps over the lazy dog";
-    for n in [1, 41, 256] {
+    for (n, things) in [(1, "item"), (41, "items"), (256, "items")] {
         let tag = tag_of((0..n).map(|i| item(&format!("KEY_{i:03}"), value)).collect());
         let file = reach::replace(&vec![0x55; 4096], &tag);
         let mut area = vec![0; 3 * file.len()];
-        b.row(&format!("read_ape_tag, {n} items"), || read_ape_tag(&file), || library::read_ape_tag(&file, &mut area));
+        b.row(
+            &format!("read_ape_tag, {n} {things}"),
+            || read_ape_tag(&file),
+            || library::read_ape_tag(&file, &mut area),
+        );
         let area = area_of(&tag);
         let mut out = vec![0; area.len() + 64];
         b.row(
-            &format!("serialize_ape_tag, {n} items"),
+            &format!("serialize_ape_tag, {n} {things}"),
             || reach::serialize(&tag),
             || library::serialize_ape_tag(&area, n, &mut out),
         );
@@ -562,6 +571,11 @@ fn bench(b: &mut Bench) {
     let tag = tag_of((0..41).map(|i| item(&format!("KEY_{i:03}"), value)).collect());
     for (size, name) in [(4 << 10, "4 KiB"), (1 << 20, "1 MiB")] {
         let file = reach::replace(&vec![0x55; size], &tag);
+        b.row(
+            &format!("find_ape_footer, {name} before a tag"),
+            || published_footer(&file),
+            || library::find_ape_footer(&file),
+        );
         b.row(
             &format!("split_ape_tag, {name} before a tag"),
             || published_parts(&file),

@@ -486,13 +486,22 @@ fn bench(b: &mut Bench) {
         let file = reach::replace(&vec![0x55; size], &tag);
         let mut out = vec![0; file.len() + 100];
         b.row(
-            &format!("set on a file of {name}, 41 items (Rust: read, set, replace; no gate)"),
+            &format!("set_ape_item on a file of {name}, 41 items (Rust: read, set, replace; no gate)"),
             || {
                 let mut tag = read_ape_tag(&file).unwrap();
                 tag.set("KEY_020", "new");
                 reach::replace(&file, &tag)
             },
             || library::set_ape_item(&file, b"KEY_020", b"new", &mut out),
+        );
+        b.row(
+            &format!("remove_ape_item on a file of {name}, 41 items (Rust: read, remove, replace; no gate)"),
+            || {
+                let mut tag = read_ape_tag(&file).unwrap();
+                tag.remove("KEY_020");
+                reach::replace(&file, &tag)
+            },
+            || library::remove_ape_item(&file, b"KEY_020", &mut out),
         );
         let (mut left, mut right) = (vec![100u8; 5_000], vec![100u8; 5_000]);
         let (mut l, mut r) = (left.clone(), right.clone());

@@ -836,6 +836,16 @@ fn published_format(left: i32, right: i32, wrap: bool) -> String {
 }
 
 #[inline(never)]
+fn published_sums(text: &str, left: i32, right: i32) -> (i32, i32) {
+    accumulate_undo(Some(text), (left, right))
+}
+
+#[inline(never)]
+fn published_range(least: u8, greatest: u8) -> String {
+    format_minmax(least, greatest)
+}
+
+#[inline(never)]
 fn published_shifted(key: &str, value: &str, steps: i32) -> Option<String> {
     shift_stored_value(key, value, steps)
 }
@@ -852,13 +862,27 @@ fn published_db(steps: i32) -> f64 {
 
 fn bench(b: &mut Bench) {
     let undo = black_box("+003,-012,N");
-    b.row("undo text parsed, numbers and flag", || published_parse(undo), || library::parse_undo(undo.as_bytes()));
+    b.row("parse_undo, numbers and flag", || published_parse(undo), || library::parse_undo(undo.as_bytes()));
     b.row(
         "format_undo_value",
         || published_format(black_box(3), black_box(-12), false),
         || {
             let (mut out, mut n) = ([0; 32], 0);
             library::format_undo_into(black_box(3), black_box(-12), false, &mut out, &mut n);
+            (out, n)
+        },
+    );
+    b.row(
+        "accumulate_undo",
+        || published_sums(undo, black_box(3), black_box(-12)),
+        || library::accumulate_undo(undo.as_bytes(), black_box(3), black_box(-12)),
+    );
+    b.row(
+        "format_minmax",
+        || published_range(black_box(94), black_box(168)),
+        || {
+            let (mut out, mut n) = ([0; 32], 0);
+            library::format_minmax_into(black_box(94), black_box(168), &mut out, &mut n);
             (out, n)
         },
     );
@@ -885,6 +909,8 @@ fn bench(b: &mut Bench) {
         || published_leaves(MINMAX, value, steps),
         || library::range_wraps_out(MINMAX.as_bytes(), value.as_bytes(), steps),
     );
+    let text = black_box(&b"left=+3\nright=-12\nmode=W\n"[..]);
+    b.row("parse_slip (Rust: a second reading of document 01)", || slip_reading(text), || library::parse_slip(text));
     fn each<A>(steps: &[i32], f: impl Fn(i32) -> A) {
         for &n in steps {
             black_box(f(n));
