@@ -8,13 +8,13 @@ use Rattle.lists.specs.Choice.{isSome}
 use Rattle.lists.specs.Write.{part}
 use Rattle.replies.specs.Limits.{countLimit, areaLimit}
 use Rattle.replies.specs.Refusal.{need, refusalOf, Plan, planned}
-use Rattle.replies.specs.declared.Refusal.the-variants.{TagTooLarge, NotEditable}
-use Rattle.items.specs.Items.{Item, parse, itemsIn}
-use Rattle.ape.specs.Tag.{findFooter, footed, sizeAt, countAt, replaced}
-use Rattle.ape.specs.Answers.{lentFits, roomFor}
-use Rattle.calls.specs.Gate.{passesGate, itemsOf, tagFits}
-use Rattle.edit.specs.declared.Editable.{Editable}
-use Rattle.edit.specs.declared.Editable.the-variants.{Items, Unfit}
+use Rattle.replies.specs.declared.Refusal.the-variants.{NotEditable}
+use Rattle.items.specs.Items.{parse, itemsIn}
+use Rattle.ape.specs.Tag.{findFooter, footed, sizeAt, countAt}
+use Rattle.ape.specs.Answers.{lentFits}
+use Rattle.calls.specs.Gate.{passesGate, itemsOf}
+use Rattle.gate.specs.declared.Editable.{Editable}
+use Rattle.gate.specs.declared.Editable.the-variants.{Items, Unfit}
 
 -- where the items of a tag stand in a file, and how many there are
 pub record AreaPlace : Type 0 where
@@ -45,7 +45,3 @@ pub record Passed (s : List ℕ) (start end count : ℕ) : Type 0 where
   pub items : itemsIn count (part start end s) ≡ itemsOf s
   pub few : count ≤ countLimit
   pub short : end - start ≤ areaLimit
-
--- the last tests of set, remove and level on a file: refusals 6 and 5 (undo takes the same way, where 6 cannot occur)
-unfoldable pub tagPlan : List ℕ → List Item → ℕ → Plan (List ℕ)
-tagPlan file ts room = planned (refusalOf (need TagTooLarge (tagFits ts) ∷ roomFor room (replaced file ts) ∷ [])) (replaced file ts)

@@ -5,9 +5,9 @@ use borrow.Author.Tests.{not-true, not-false}
 use Rattle.lists.specs.Choice.{isSome}
 use Rattle.items.specs.Items.{parse}
 use Rattle.calls.specs.Gate.{allValid}
-use Rattle.edit.proofs.Clean.{provided-some, provided-none}
-use Rattle.edit.proofs.is_clean.Statement.{statement}
-use Rattle.edit.proofs.is_clean.Tie as tie
+use Rattle.gate.proofs.Clean.{provided-some, provided-none}
+use Rattle.gate.proofs.is_clean.Statement.{statement}
+use Rattle.gate.proofs.is_clean.Tie as tie
 
 returns : tie.Need-returns
 returns c =

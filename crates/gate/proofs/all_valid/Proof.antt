@@ -11,9 +11,9 @@ use Rattle.utf8.specs.Utf8.{valid}
 use Rattle.items.specs.Items.{Item, itemsIn}
 use Rattle.items.proofs.Loops.{Left, begin, Turn, turn, never, items-none}
 use Rattle.calls.specs.Gate.{allValid}
-use Rattle.edit.proofs.Clean.{valid-none, bad-key, bad-value, valid-more}
-use Rattle.edit.proofs.all_valid.Statement.{statement}
-use Rattle.edit.proofs.all_valid.Tie as tie
+use Rattle.gate.proofs.Clean.{valid-none, bad-key, bad-value, valid-more}
+use Rattle.gate.proofs.all_valid.Statement.{statement}
+use Rattle.gate.proofs.all_valid.Tie as tie
 
 abbrev Inv-loop : tie.InvT-loop
 Inv-loop table area count at₀ left₀ at left = Left area at left × (allValid (itemsIn count area) ≡ allValid (itemsIn left (drop at area)))

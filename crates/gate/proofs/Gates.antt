@@ -1,7 +1,7 @@
 -- Laws of the gate, by the tests of the code.
 use Prim.Native.Nat.{ℕ, _+_, _-_, _≤_, _<_}
 use native.Mathlib.Omega.{arith}
-use mathlib.Core.Path.{_≡_, refl, sym}
+use mathlib.Core.Path.{_≡_, refl, sym, ap, _∙_}
 use mathlib.Core.Bool.{Bool, true, false, true≢false}
 use mathlib.Core.List.{List, []}
 use lib.ListN.{length}
@@ -10,19 +10,21 @@ use borrow.Author.Tests.{le-leb, lt-leb, ltb-false, eq-eqb, ne-eqb}
 use Rattle.lists.specs.Choice.{provided, isSome}
 use Rattle.lists.specs.Le.{readU32}
 use Rattle.lists.specs.Write.{part}
+use Rattle.lists.proofs.Places.{length-part}
 use Rattle.frame.specs.Tail.{reach, startOf, tagStart}
 use Rattle.frame.specs.declared.TagStart.{TagStart}
 use Rattle.frame.specs.declared.TagStart.the-variants.{At as StartAt, Nowhere as NoStart}
-use Rattle.items.specs.Items.{parse}
+use Rattle.items.specs.Items.{areaBytes, parse}
+use Rattle.items.proofs.Area.{area-length}
 use Rattle.ape.specs.Tag.{findFooter, started, versionAt, sizeAt, countAt, areaAt}
 use Rattle.ape.specs.declared.Footer.{Footer}
 use Rattle.ape.specs.declared.Footer.the-variants.{At, Nowhere}
 use Rattle.ape.proofs.Files.{footer-within, area-part}
 use Rattle.calls.specs.Gate.{fit, allValid, gateItems, passesGate, itemsOf}
 use Rattle.calls.proofs.Gates.{gate-footer, fit-tests}
-use Rattle.edit.specs.declared.Editable.{Editable}
-use Rattle.edit.specs.declared.Editable.the-variants.{Items, Unfit}
-use Rattle.edit.specs.Gate.{areaPlace, gateOf, Passed}
+use Rattle.gate.specs.declared.Editable.{Editable}
+use Rattle.gate.specs.declared.Editable.the-variants.{Items, Unfit}
+use Rattle.gate.specs.Gate.{areaPlace, gateOf, Passed}
 
 -- a tag that starts in the file is not longer than what precedes the footer's end
 pub start-size : (s : List ℕ) (f a : ℕ) → tagStart s f ≡ StartAt a → sizeAt s f ≤ f + 32
@@ -143,3 +145,23 @@ gate-is s g e = rw e (go (passesGate s) refl)
     go : (t : Bool) → passesGate s ≡ t → GateIs s (gateOf s)
     go true t = passed (findFooter s) refl t
     go false t = rw (← gate-shut s t) t
+
+pub gate-unfit : (s : List ℕ) (g : Editable) → g ≡ gateOf s → g ≡ Unfit → passesGate s ≡ false
+gate-unfit s g h e = rw e at (gate-is s g h)
+
+pub gate-passed : (s : List ℕ) (g : Editable) (a b n : ℕ) → g ≡ gateOf s → g ≡ Items a b n → Passed s a b n
+gate-passed s g a b n h e = rw e at (gate-is s g h)
+
+-- where the items stand
+pub gate-place : (s : List ℕ) (g : Editable) (a b n : ℕ) → g ≡ gateOf s → g ≡ Items a b n
+    → (passesGate s ≡ true) × (a ≡ areaPlace s .start) × (b ≡ areaPlace s .end) × (n ≡ areaPlace s .count)
+unfolding gateOf
+gate-place s g a b n h e =
+    let p = gate-passed s g a b n h e .passes in
+    let i : Items a b n ≡ Items (areaPlace s .start) (areaPlace s .end) (areaPlace s .count) = sym e ∙ h ∙ rw p in
+    (p, (cc), (cc), (cc))
+
+-- the items of a file that is fit for editing have few bytes
+pub short-items : {s : List ℕ} {start end count : ℕ} → Passed s start end count → length (areaBytes (itemsOf s)) ≤ 32768
+short-items {s} {start} {end} {count} p =
+    omega (arith, ap (λ ts. length (areaBytes ts)) (p .items), area-length count (part start end s) (p .good), length-part start end s (p .within), p .short)

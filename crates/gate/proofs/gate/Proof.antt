@@ -16,9 +16,9 @@ use Rattle.ape.specs.Tag.{findFooter, versionAt, sizeAt, countAt, areaAt}
 use Rattle.ape.specs.declared.Footer.the-variants.{At}
 use Rattle.ape.proofs.Files.{footer-within, area-part}
 use Rattle.calls.specs.Gate.{allValid}
-use Rattle.edit.proofs.Gates.{start-size, gate-empty, other-version, no-footer-counted, no-start, many-items, many-bytes, bad-items, good-items}
-use Rattle.edit.proofs.gate.Statement.{statement}
-use Rattle.edit.proofs.gate.Tie as tie
+use Rattle.gate.proofs.Gates.{start-size, gate-empty, other-version, no-footer-counted, no-start, many-items, many-bytes, bad-items, good-items}
+use Rattle.gate.proofs.gate.Statement.{statement}
+use Rattle.gate.proofs.gate.Tie as tie
 
 returns : tie.Need-returns
 returns c = gate-empty (c .before .before .before .before .args .file .now) (sym (c .before .before .find-footer .ensures) ∙ c .enum-told .given .1)
