@@ -1,4 +1,4 @@
--- What the faces of crates keys, items, area_edit, area_values and area_gains answer and leave in their lent numbers. A refusal leaves them.
+-- What the faces of crates keys, items, area_edit, area_drop, area_values and area_gains answer and leave in their lent numbers. A refusal leaves them.
 use Prim.Native.Nat.{ℕ}
 use lib.IntN.{ℤ, pos}
 use Rattle.replies.specs.Refusal.{numberOf}

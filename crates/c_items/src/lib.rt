@@ -1,4 +1,4 @@
-// The faces of crates keys, items, area_edit, area_values and area_gains.
+// The faces of crates keys, items, area_edit, area_drop, area_values and area_gains.
 //
 // A call that edits an area writes the new area to the front of `out`, how many items it has into `items`, and its length into `written`.
 ghost use mathlib.Core.Path.{_≡_};
@@ -9,7 +9,8 @@ ghost use Rattle.keys.specs.Keys.{undoKey, minmaxKey, isKey, whichKey, whichIs,
 ghost use Rattle.values.specs.Undo.{formatUndo};
 ghost use Rattle.values.specs.Range.{formatRange};
 ghost use Rattle.items.specs.Answers.{stepOf, findOf};
-ghost use Rattle.area_edit.specs.Edits.{answer, bytes, setPlan, removePlan, dropPlan};
+ghost use Rattle.area_edit.specs.Edits.{answer, bytes, setPlan};
+ghost use Rattle.area_drop.specs.Drops.{removePlan, dropPlan};
 ghost use Rattle.area_values.specs.Undo.{undoGainOf};
 ghost use Rattle.area_gains.specs.Gains.{setGainsPlan};
 ghost use Rattle.c_items.specs.ItemsFace.{placeFace, itemFace, foundFace, gainFace, editedFace};
@@ -201,7 +202,7 @@ pub extern "C" fn zib_remove(
         (r ≡ face .reply) × (now (items .exit) ≡ face .items) × (now (written .exit) ≡ face .written)
         × (now (out .exit) ≡ over (bytes plan) (now (out .entry)))) ⌝ }
 {
-    let e = area_edit::remove(area, count, key, out);
+    let e = area_drop::remove(area, count, key, out);
     edited(e, items, written)
 }
 
@@ -219,7 +220,7 @@ pub extern "C" fn zib_remove_replaygain(
         (r ≡ face .reply) × (now (items .exit) ≡ face .items) × (now (written .exit) ≡ face .written)
         × (now (out .exit) ≡ over (bytes plan) (now (out .entry)))) ⌝ }
 {
-    let e = area_edit::remove_replaygain(area, count, out);
+    let e = area_drop::remove_replaygain(area, count, out);
     edited(e, items, written)
 }
 
@@ -237,7 +238,7 @@ pub extern "C" fn zib_drop_undone(
         (r ≡ face .reply) × (now (items .exit) ≡ face .items) × (now (written .exit) ≡ face .written)
         × (now (out .exit) ≡ over (bytes plan) (now (out .entry)))) ⌝ }
 {
-    edited(area_edit::drop_undone(area, count, out), items, written)
+    edited(area_drop::drop_undone(area, count, out), items, written)
 }
 
 // The area without the eight keys of mp3gain. Refusals 12 and 5.
@@ -254,7 +255,7 @@ pub extern "C" fn zib_take_mp3gain(
         (r ≡ face .reply) × (now (items .exit) ≡ face .items) × (now (written .exit) ≡ face .written)
         × (now (out .exit) ≡ over (bytes plan) (now (out .entry)))) ⌝ }
 {
-    edited(area_edit::take_mp3gain(area, count, out), items, written)
+    edited(area_drop::take_mp3gain(area, count, out), items, written)
 }
 
 // The area with an undo text of these numbers and this flag. Refusals 12 and 5.

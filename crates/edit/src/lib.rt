@@ -7,15 +7,15 @@ ghost use Rattle.lists.specs.Choice.{isSome};
 ghost use Rattle.lists.specs.Write.{over};
 ghost use Rattle.keys.specs.Keys.{isKey};
 ghost use Rattle.items.specs.Items.{parse, itemsIn, setItem, without};
-ghost use Rattle.area_edit.specs.Edits.{dropped};
+ghost use Rattle.area_drop.specs.Drops.{dropped};
 ghost use Rattle.ape_write.specs.Answers.{writtenAnswer, writtenBytes};
 ghost use Rattle.calls.specs.Gate.{itemsOf};
 ghost use Rattle.calls.specs.Calls.{setPlan, removePlan};
 ghost use Rattle.gate.specs.Gate.{Passed};
 ghost use Rattle.edit.specs.Finish.{tagPlan};
 use ape_write::Written;
-use area_edit::Drop;
-use area_edit::Measured;
+use area_drop::Drop;
+use area_drop::Measured;
 use gate::Editable;
 use replies::Refusal;
 
@@ -134,7 +134,7 @@ fn drop_items_in(
         (r ≡ writtenAnswer plan) × (now (out .exit) ≡ over (writtenBytes plan) (now (out .entry)))) ⌝ }
 {
     let area = &file[start..end];
-    let m = area_edit::measure_without(area, count, what, key);
+    let m = area_drop::measure_without(area, count, what, key);
     let Measured::Size {
         count: left,
         length: _,
@@ -142,7 +142,7 @@ fn drop_items_in(
     else {
         return Written::Refused(Refusal::NotEditable);
     };
-    let n = area_edit::write_without(area, count, what, key, new);
+    let n = area_drop::write_without(area, count, what, key, new);
     finish(file, &new[0..n], left, out)
 }
 

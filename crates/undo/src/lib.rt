@@ -9,7 +9,7 @@ ghost use Rattle.calls.specs.Calls.{storedUndo, undoPlan};
 ghost use Rattle.level.specs.Answers.{levelAnswer, levelBytes, leftAfter, rightAfter};
 ghost use Rattle.undo.specs.Stored.{undoIs};
 use ape_write::Written;
-use area_edit::Drop;
+use area_drop::Drop;
 use frame::GainMode;
 use frame::GainSteps;
 use gate::Editable;

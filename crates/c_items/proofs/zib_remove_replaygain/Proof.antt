@@ -1,7 +1,7 @@
 use borrow.Author.Needs.{needs}
 use lib.ListN.{length}
 use Rattle.keys.specs.Keys.{isReplayGain}
-use Rattle.area_edit.specs.Edits.{dropPlan}
+use Rattle.area_drop.specs.Drops.{dropPlan}
 use Rattle.c_items.proofs.Face.{face-of}
 use Rattle.c_items.proofs.zib_remove_replaygain.Statement.{statement}
 use Rattle.c_items.proofs.zib_remove_replaygain.Tie as tie

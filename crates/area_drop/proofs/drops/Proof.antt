@@ -1,8 +1,8 @@
 use mathlib.Core.Path.{_≡_, ap, sym, _∙_}
 use borrow.Author.Needs.{needs}
-use Rattle.area_edit.specs.Edits.{dropped}
-use Rattle.area_edit.proofs.drops.Statement.{statement}
-use Rattle.area_edit.proofs.drops.Tie as tie
+use Rattle.area_drop.specs.Drops.{dropped}
+use Rattle.area_drop.proofs.drops.Statement.{statement}
+use Rattle.area_drop.proofs.drops.Tie as tie
 
 returns : tie.Need-returns
 returns c = rw (c .before .enum-told .given .1) (c .same-key .ensures)

@@ -5,10 +5,10 @@ use borrow.Author.Needs.{needs}
 use borrow.Author.Tests.{not-true, not-false}
 use Rattle.lists.proofs.Wrote.{next}
 use Rattle.items.proofs.Loops.{Turn, turn, never}
-use Rattle.area_edit.specs.Edits.{dropped}
-use Rattle.area_edit.proofs.Dropping.{Keeping, keep-begin, keep-drop, keep-room, keep-keep, keep-end}
-use Rattle.area_edit.proofs.write_without.Statement.{statement}
-use Rattle.area_edit.proofs.write_without.Tie as tie
+use Rattle.area_drop.specs.Drops.{dropped}
+use Rattle.area_drop.proofs.Dropping.{Keeping, keep-begin, keep-drop, keep-room, keep-keep, keep-end}
+use Rattle.area_drop.proofs.write_without.Statement.{statement}
+use Rattle.area_drop.proofs.write_without.Tie as tie
 
 abbrev Inv-loop : tie.InvT-loop
 Inv-loop area count what key out₀ at₀ left₀ o₀ out at left o = Keeping (dropped what key) area count out₀ out at left o

@@ -7,10 +7,10 @@ use borrow.Author.Tests.{not-true, not-false}
 use lib.ListN.{length}
 use Rattle.items.specs.Items.{plainHead, without}
 use Rattle.items.proofs.Walk.{zero-flags, Taken, taken, stopped}
-use Rattle.area_edit.specs.Edits.{dropped, measuredOf}
-use Rattle.area_edit.proofs.Dropping.{measured, measure-begin, measure-long, measure-stop, measure-drop, measure-keep, measure-end, measure-behind}
-use Rattle.area_edit.proofs.measure_without.Statement.{statement}
-use Rattle.area_edit.proofs.measure_without.Tie as tie
+use Rattle.area_drop.specs.Drops.{dropped, measuredOf}
+use Rattle.area_drop.proofs.Dropping.{measured, measure-begin, measure-long, measure-stop, measure-drop, measure-keep, measure-end, measure-behind}
+use Rattle.area_drop.proofs.measure_without.Statement.{statement}
+use Rattle.area_drop.proofs.measure_without.Tie as tie
 
 abbrev Inv-loop : tie.InvT-loop
 Inv-loop area count what key at₀ left₀ n₀ size₀ at left n size =

@@ -2,10 +2,11 @@ use mathlib.Core.Path.{_≡_, sym, _∙_}
 use native.Mathlib.Omega.{arith}
 use borrow.Author.Needs.{needs}
 use Rattle.items.specs.Items.{without}
-use Rattle.area_edit.specs.Edits.{dropped}
-use Rattle.area_edit.proofs.Plans.{fits-yes, fits-room, fits-long, edit-12, edit-5, edit-yes, refused, finished, Sized, sized, unsized}
-use Rattle.area_edit.proofs.edit_without.Statement.{statement}
-use Rattle.area_edit.proofs.edit_without.Tie as tie
+use Rattle.area_drop.specs.Drops.{dropped}
+use Rattle.area_edit.proofs.Plans.{fits-yes, fits-room, fits-long, refused, finished}
+use Rattle.area_drop.proofs.Plans.{edit-12, edit-5, edit-yes, Sized, sized, unsized}
+use Rattle.area_drop.proofs.edit_without.Statement.{statement}
+use Rattle.area_drop.proofs.edit_without.Tie as tie
 
 returns : tie.Need-returns
 returns c =

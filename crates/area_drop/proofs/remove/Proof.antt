@@ -2,10 +2,11 @@ use mathlib.Core.Path.{_≡_, sym, ap, _∙_}
 use borrow.Author.Needs.{needs}
 use borrow.Author.Tests.{not-true, not-false}
 use Rattle.lists.specs.Write.{over}
 use Rattle.area_edit.specs.Edits.{answer, bytes}
-use Rattle.area_edit.proofs.Plans.{remove-12, remove-3, remove-good, refused}
-use Rattle.area_edit.proofs.remove.Statement.{statement}
-use Rattle.area_edit.proofs.remove.Tie as tie
+use Rattle.area_edit.proofs.Plans.{refused}
+use Rattle.area_drop.proofs.Plans.{remove-12, remove-3, remove-good}
+use Rattle.area_drop.proofs.remove.Statement.{statement}
+use Rattle.area_drop.proofs.remove.Tie as tie
 
 returns : tie.Need-returns
 returns c =

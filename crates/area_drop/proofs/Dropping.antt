@@ -18,9 +18,9 @@ use Rattle.items.specs.Items.{Item, itemBytes, areaBytes, sizeOf, plainHead, pa
 use Rattle.items.proofs.Area.{length-item, length-area, parse-long, parse-stop, parse-end, parse-none}
 use Rattle.items.proofs.Walk.{Taken, fewer, key-part}
 use Rattle.items.proofs.Loops.{Left, begin, Turn, items-none}
-use Rattle.area_edit.specs.Edits.{measuredOf}
-use Rattle.area_edit.specs.declared.Measured.{Measured}
-use Rattle.area_edit.specs.declared.Measured.the-variants.{Size, Malformed}
+use Rattle.area_drop.specs.Drops.{measuredOf}
+use Rattle.area_drop.specs.declared.Measured.{Measured}
+use Rattle.area_drop.specs.declared.Measured.the-variants.{Size, Malformed}
 
 module _ (p : List ℕ → Bool) where
   goes : (t : Item) (ts : List Item) → p (t .key) ≡ true → without p (t ∷ ts) ≡ without p ts
