@@ -7,7 +7,7 @@ use Rattle.replies.specs.Refusal.{Plan}
 use Rattle.items.specs.Items.{Item}
 use Rattle.area_edit.specs.Edits.{answer, bytes}
 use Rattle.area_edit.specs.declared.Edited.{Edited}
-use Rattle.c_items.specs.ItemsFace.{editedFace}
+use Rattle.c_area.specs.AreaFace.{editedFace}
 
 -- an edit that answered and wrote as planned, and whose answer was put into the lent numbers, is the face of the plan
 pub face-of : {r items' written' : ℕ} {out' : List ℕ} {e : Edited} (plan : Plan (List Item)) (items written : ℕ) (out : List ℕ)

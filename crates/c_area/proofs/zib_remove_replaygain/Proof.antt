@@ -2,9 +2,9 @@ use borrow.Author.Needs.{needs}
 use lib.ListN.{length}
 use Rattle.keys.specs.Keys.{isReplayGain}
 use Rattle.area_drop.specs.Drops.{dropPlan}
-use Rattle.c_items.proofs.Face.{face-of}
-use Rattle.c_items.proofs.zib_remove_replaygain.Statement.{statement}
-use Rattle.c_items.proofs.zib_remove_replaygain.Tie as tie
+use Rattle.c_area.proofs.Face.{face-of}
+use Rattle.c_area.proofs.zib_remove_replaygain.Statement.{statement}
+use Rattle.c_area.proofs.zib_remove_replaygain.Tie as tie
 
 returns : tie.Need-returns
 returns c =

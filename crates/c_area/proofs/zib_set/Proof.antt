@@ -1,9 +1,9 @@
 use borrow.Author.Needs.{needs}
 use lib.ListN.{length}
 use Rattle.area_edit.specs.Edits.{setPlan}
-use Rattle.c_items.proofs.Face.{face-of}
-use Rattle.c_items.proofs.zib_set.Statement.{statement}
-use Rattle.c_items.proofs.zib_set.Tie as tie
+use Rattle.c_area.proofs.Face.{face-of}
+use Rattle.c_area.proofs.zib_set.Statement.{statement}
+use Rattle.c_area.proofs.zib_set.Tie as tie
 
 returns : tie.Need-returns
 returns c =

@@ -3,9 +3,9 @@ use lib.ListN.{length}
 use Rattle.keys.specs.Keys.{minmaxKey}
 use Rattle.values.specs.Range.{formatRange}
 use Rattle.area_edit.specs.Edits.{setPlan}
-use Rattle.c_items.proofs.Face.{face-of}
-use Rattle.c_items.proofs.zib_set_minmax.Statement.{statement}
-use Rattle.c_items.proofs.zib_set_minmax.Tie as tie
+use Rattle.c_area.proofs.Face.{face-of}
+use Rattle.c_area.proofs.zib_set_minmax.Statement.{statement}
+use Rattle.c_area.proofs.zib_set_minmax.Tie as tie
 
 returns : tie.Need-returns
 returns c =

@@ -4,9 +4,9 @@ use lib.ListN.{length}
 use Rattle.keys.specs.Keys.{undoKey}
 use Rattle.values.specs.Undo.{formatUndo}
 use Rattle.area_edit.specs.Edits.{setPlan}
-use Rattle.c_items.proofs.Face.{face-of}
-use Rattle.c_items.proofs.zib_set_undo_gain.Statement.{statement}
-use Rattle.c_items.proofs.zib_set_undo_gain.Tie as tie
+use Rattle.c_area.proofs.Face.{face-of}
+use Rattle.c_area.proofs.zib_set_undo_gain.Statement.{statement}
+use Rattle.c_area.proofs.zib_set_undo_gain.Tie as tie
 
 returns : tie.Need-returns
 returns c =

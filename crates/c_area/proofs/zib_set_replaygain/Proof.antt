@@ -2,9 +2,9 @@ use borrow.Author.Needs.{needs}
 use lib.ListN.{length}
 use mathlib.Core.List.{[], _∷_}
 use Rattle.area_gains.specs.Gains.{setGainsPlan}
-use Rattle.c_items.proofs.Face.{face-of}
-use Rattle.c_items.proofs.zib_set_replaygain.Statement.{statement}
-use Rattle.c_items.proofs.zib_set_replaygain.Tie as tie
+use Rattle.c_area.proofs.Face.{face-of}
+use Rattle.c_area.proofs.zib_set_replaygain.Statement.{statement}
+use Rattle.c_area.proofs.zib_set_replaygain.Tie as tie
 
 returns : tie.Need-returns
 returns c =
