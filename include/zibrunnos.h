@@ -87,7 +87,7 @@ uint32_t zib_shift_stored_value(
 uint32_t zib_parse_slip(const uint8_t *text, size_t text_len, int32_t *left, int32_t *right, uint32_t *wrap);
 
 /* ---- An item area: `count` items one after another, each a value length and flags of four bytes (least first; flags zero), a key, a zero byte and a
- * value. A result is written to the front of `out`, how many items it has into `items`, and its length into `written`: libc_items.a */
+ * value. The calls that read: libc_items.a */
 
 /* Whether refusal 3 lets the key pass. */
 bool zib_is_key(const uint8_t *key, size_t key_len);
@@ -109,6 +109,9 @@ uint32_t zib_get(
 
 /* The left number of the first undo item: `there` is 1 and `steps` the number, or both are 0 where there is none. Refusal 12. */
 uint32_t zib_get_undo_gain(const uint8_t *area, size_t area_len, size_t count, uint32_t *there, int32_t *steps);
+
+/* ---- Edits of an item area. The new area is written to the front of `out`, how many items it has into `items`, and its length into `written`:
+ * libc_area.a */
 
 /* The area with this value at the first item with this key, or with one more item. Refusals 12, 3, 4 and 5. */
 uint32_t zib_set(

@@ -15,14 +15,14 @@ use Rattle.replies.specs.Limits.{fileLimit}
 use Rattle.replies.specs.Refusal.{Plan, no, yes}
 use Rattle.replies.specs.declared.Refusal.{Refusal}
 use Rattle.utf8.specs.Utf8.{valid}
-use Rattle.keys.specs.Keys.{sameKey, isKey}
-use Rattle.items.specs.Items.{Item, areaBytes, parse, itemsIn, setItem, without}
+use Rattle.keys.specs.Keys.{isKey}
+use Rattle.items.specs.Items.{Item, areaBytes, parse, itemsIn, setItem}
 use Rattle.items.proofs.Area.{AllSane, parse-area}
-use Rattle.items.proofs.ItemLaws.{sane-set, sane-without, sane-key, parse-sane}
-use Rattle.area_edit.specs.Edits.{fits, answer, bytes, setPlan, removePlan, dropPlan}
+use Rattle.items.proofs.ItemLaws.{sane-set, sane-key, parse-sane}
+use Rattle.area_edit.specs.Edits.{fits, answer, bytes, setPlan}
 use Rattle.area_edit.specs.declared.Edited.{Edited}
 use Rattle.area_edit.specs.declared.Edited.the-variants.{Done, Refused}
-use Rattle.area_edit.proofs.Plans.{edit-12, edit-5, edit-yes, remove-12, remove-3, remove-good, set-12, set-3, set-4, set-5, set-yes}
+use Rattle.area_edit.proofs.Plans.{set-12, set-3, set-4, set-5, set-yes}
 
 -- ---- an answer says what the plan is
 
@@ -41,7 +41,7 @@ pub written : {p : Plan (List Item)} {c l : ℕ} (d : Did p c l) (out xs : List 
 written {p} {c} {l} d out xs e =
     ap (take (l - 0)) (e ∙ ap (λ q. over (bytes q) out) (d .is)) ∙ take-at (areaBytes (d .items)) _ (l - 0) (omega (arith, d .size))
 
--- ---- the new items, for each call
+-- ---- the new items
 
 -- they can be read back, and fit
 pub record Fine (room : ℕ) (ts : List Item) : Type 0 where
@@ -53,36 +53,16 @@ pub record Fine (room : ℕ) (ts : List Item) : Type 0 where
 pub again : {room : ℕ} {ts : List Item} (f : Fine room ts) → parse (length ts) (areaBytes ts) ≡ some ts
 again {room} {ts} f = parse-area ts (f .sane) (omega (arith, f .small))
 
-fitted : (room : ℕ) (ts : List Item) → AllSane ts → fits room ts ≡ true → Fine room ts
+pub fitted : (room : ℕ) (ts : List Item) → AllSane ts → fits room ts ≡ true → Fine room ts
 fitted room ts s e =
     let (p, q) = and-eq-true-iff (leb (length (areaBytes ts)) room) (leb (length (areaBytes ts)) fileLimit) .0 e in
     record { sane = s; fit = leb-true _ _ p; small = leb-true _ _ q }
 
 -- a plan that is refused is not done
-clash : {A : Type 0} {p : Plan (List Item)} {r : Refusal} {ts : List Item} → p ≡ yes ts → p ≡ no r → A
+pub clash : {A : Type 0} {p : Plan (List Item)} {r : Refusal} {ts : List Item} → p ≡ yes ts → p ≡ no r → A
 clash e f = absurd (let z : _≡_ {A = ℕ} 0 1 = cc in omega arith)
 
 module _ (n : ℕ) (s : List ℕ) (room : ℕ) (ts : List Item) where
-  -- the area was well formed, and the items are its own without those that go
-  pub drop-done : (p : List ℕ → Bool) → dropPlan p n s room ≡ yes ts → (isSome (parse n s) ≡ true) × (ts ≡ without p (itemsIn n s)) × Fine room ts
-  drop-done p e = go (isSome (parse n s)) (fits room (without p (itemsIn n s))) refl refl
-    where
-      go : (a r : Bool) → isSome (parse n s) ≡ a → fits room (without p (itemsIn n s)) ≡ r → (isSome (parse n s) ≡ true) × (ts ≡ without p (itemsIn n s)) × Fine room ts
-      go false r x y = clash e (edit-12 n s room (without p) x)
-      go true false x y = clash e (edit-5 n s room (without p) x y)
-      go true true x y =
-          let q : yes (without p (itemsIn n s)) ≡ yes ts = sym (edit-yes n s room (without p) x y) ∙ e in
-          let i : without p (itemsIn n s) ≡ ts = cc in
-          (x, sym i, rw (← i) (fitted room (without p (itemsIn n s)) (sane-without p (itemsIn n s) (parse-sane n s)) y))
-
-  pub remove-done : (key : List ℕ) → removePlan key n s room ≡ yes ts → (isSome (parse n s) ≡ true) × (ts ≡ without (sameKey key) (itemsIn n s)) × Fine room ts
-  remove-done key e = go (isSome (parse n s)) (isKey key) refl refl
-    where
-      go : (a k : Bool) → isSome (parse n s) ≡ a → isKey key ≡ k → (isSome (parse n s) ≡ true) × (ts ≡ without (sameKey key) (itemsIn n s)) × Fine room ts
-      go false k x y = clash e (remove-12 n s room key x)
-      go true false x y = clash e (remove-3 n s room key x y)
-      go true true x y = drop-done (sameKey key) (sym (remove-good n s room key y) ∙ e)
-
   pub set-done : (key value : List ℕ) → setPlan key value n s room ≡ yes ts → (isSome (parse n s) ≡ true) × (ts ≡ setItem key value (itemsIn n s)) × Fine room ts
   set-done key value e = go (isSome (parse n s)) (isKey key) (valid value) (fits room (setItem key value (itemsIn n s))) refl refl refl refl
     where

@@ -1,4 +1,3 @@
-pub mod Dropping
 pub mod Plans
 pub mod Setting
 pub mod Again

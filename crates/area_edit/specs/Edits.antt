@@ -4,34 +4,19 @@ use mathlib.Core.Bool.{Bool, true, false, _&&_}
 use mathlib.Core.List.{List, [], _∷_, _++_}
 use lib.ListN.{length}
 use lib.Dec.{leb}
-use Rattle.lists.specs.Choice.{found, isSome}
+use Rattle.lists.specs.Choice.{isSome}
 use Rattle.lists.specs.Le.{u32le}
 use Rattle.lists.specs.Write.{part}
 use Rattle.replies.specs.Limits.{fileLimit}
 use Rattle.replies.specs.Refusal.{Test, need, refusalOf, Plan, no, yes, planned}
 use Rattle.replies.specs.declared.Refusal.the-variants.{MalformedArea, BadKey, NotUtf8, NoRoom}
 use Rattle.utf8.specs.Utf8.{valid}
-use Rattle.keys.specs.Keys.{upperAll, sameKey, isMp3gainKey, isUndone, isReplayGain, isKey}
-use Rattle.items.specs.Items.{Item, areaBytes, parse, itemsIn, setItem, without, removeItem}
+use Rattle.keys.specs.Keys.{upperAll, isKey}
+use Rattle.items.specs.Items.{Item, areaBytes, parse, itemsIn, setItem}
 use Rattle.items.specs.declared.Place.{Place}
-use Rattle.items.specs.declared.Place.the-variants.{At, Nowhere, Malformed as BadArea}
-use Rattle.area_edit.specs.declared.Drop.{Drop}
-use Rattle.area_edit.specs.declared.Drop.the-variants.{Key, Undone, ReplayGain, Mp3gain}
-use Rattle.area_edit.specs.declared.Measured.{Measured}
-use Rattle.area_edit.specs.declared.Measured.the-variants.{Size, Malformed}
+use Rattle.items.specs.declared.Place.the-variants.{At, Nowhere, Malformed}
 use Rattle.area_edit.specs.declared.Edited.{Edited}
 use Rattle.area_edit.specs.declared.Edited.the-variants.{Done, Refused}
-
--- which items are dropped, by their keys
-abbrev pub dropped : Drop → List ℕ → List ℕ → Bool
-dropped Key key = sameKey key
-dropped Undone key = isUndone
-dropped ReplayGain key = isReplayGain
-dropped Mp3gain key = isMp3gainKey
-
--- how many items f makes of those of an area, and how many bytes they have
-abbrev pub measuredOf : (List Item → List Item) → ℕ → List ℕ → Measured
-measuredOf f n s = found (parse n s) Malformed (λ ts. Size (length (f ts)) (length (areaBytes (f ts))))
 
 -- refusal 5: the area of the items fits into `room` bytes and into a file
 abbrev pub fits : ℕ → List Item → Bool
@@ -52,25 +37,17 @@ abbrev pub bytes : Plan (List Item) → List ℕ
 bytes (no r) = []
 bytes (yes ts) = areaBytes ts
 
--- ---- the calls
+-- ---- set
 
 -- refusals 12, 3, 4 and 5
 abbrev pub setPlan : List ℕ → List ℕ → ℕ → List ℕ → ℕ → Plan (List Item)
 setPlan key value n s room = edited (need BadKey (isKey key) ∷ need NotUtf8 (valid value) ∷ []) (setItem key value) n s room
 
--- refusals 12, 3 and 5
-abbrev pub removePlan : List ℕ → ℕ → List ℕ → ℕ → Plan (List Item)
-removePlan key n s room = edited (need BadKey (isKey key) ∷ []) (removeItem key) n s room
-
--- the items whose keys pass the test go; refusals 12 and 5
-abbrev pub dropPlan : (List ℕ → Bool) → ℕ → List ℕ → ℕ → Plan (List Item)
-dropPlan p n s room = edited [] (without p) n s room
-
 -- the search found the area malformed
 abbrev pub isMalformed : Place → Bool
 isMalformed (At start stop end) = false
 isMalformed Nowhere = false
-isMalformed BadArea = true
+isMalformed Malformed = true
 
 -- ---- the bytes that set writes
 

@@ -1,7 +1,7 @@
 -- What the face of the gate answers and leaves in its lent numbers. A refusal leaves them.
 use Prim.Native.Nat.{ℕ}
 use Rattle.replies.specs.Refusal.{numberOf, Plan, no, yes}
-use Rattle.edit.specs.Gate.{AreaPlace}
+use Rattle.gate.specs.Gate.{AreaPlace}
 
 -- the reply, where the items stand, and how many there are
 pub record GateFace : Type 0 where

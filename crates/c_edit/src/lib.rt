@@ -1,13 +1,13 @@
-// The faces of crate edit: the editing gate, and set and remove on a file.
+// The faces of crates gate and edit: the editing gate, and set and remove on a file.
 ghost use mathlib.Core.Path.{_≡_};
 ghost use lib.ListN.{length};
 ghost use Rattle.lists.specs.Write.{over};
 ghost use Rattle.ape_write.specs.Answers.{writtenAnswer, writtenBytes};
 ghost use Rattle.calls.specs.Calls.{setPlan, removePlan};
-ghost use Rattle.edit.specs.Gate.{gatePlan};
+ghost use Rattle.gate.specs.Gate.{gatePlan};
 ghost use Rattle.c_ape.specs.ApeFace.{writtenFace};
 ghost use Rattle.c_edit.specs.EditFace.{gateFace};
-use edit::Editable;
+use gate::Editable;
 use replies::Refusal;
 
 // Where the items of a file stand that is fit for editing, and how many there are: all three numbers are 0 where it has no tag. Refusals
@@ -25,7 +25,7 @@ pub extern "C" fn zib_gate(
     if replies::FILE_LIMIT < file.len() {
         return replies::number(Refusal::FileTooLong);
     }
-    let g = edit::gate(file);
+    let g = gate::gate(file);
     let Editable::Items {
         start: a,
         end: b,

@@ -1,4 +1,4 @@
--- What the faces of crates keys, items, area_edit, area_values and area_gains answer and leave in their lent numbers. A refusal leaves them.
+-- What the faces that read a key or an area answer and leave in their lent numbers. A refusal leaves them.
 use Prim.Native.Nat.{ℕ}
 use lib.IntN.{ℤ, pos}
 use Rattle.replies.specs.Refusal.{numberOf}
@@ -9,8 +9,6 @@ use Rattle.items.specs.declared.Stepped.{Stepped}
 use Rattle.items.specs.declared.Stepped.the-variants.{Item, End, Malformed}
 use Rattle.items.specs.declared.Found.{Found}
 use Rattle.items.specs.declared.Found.the-variants.{Value, Nothing, Refused as NotFound}
-use Rattle.area_edit.specs.declared.Edited.{Edited}
-use Rattle.area_edit.specs.declared.Edited.the-variants.{Done, Refused}
 use Rattle.area_values.specs.declared.UndoGain.{UndoGain}
 use Rattle.area_values.specs.declared.UndoGain.the-variants.{Steps, Nothing as NoSteps, Refused as NoGain}
 
@@ -58,14 +56,3 @@ abbrev pub gainFace : UndoGain → ℕ → ℤ → GainFace
 gainFace (Steps n) there steps = record { reply = 0; there = 1; steps = n }
 gainFace NoSteps there steps = record { reply = 0; there = 0; steps = pos 0 }
 gainFace (NoGain r) there steps = record { reply = numberOf r; there = there; steps = steps }
-
--- an edit: the reply, how many items were written, and how many bytes
-pub record EditedFace : Type 0 where
-  pub reply : ℕ
-  pub items : ℕ
-  pub written : ℕ
-
--- from the answer of the edit, and what the lent numbers held
-abbrev pub editedFace : Edited → ℕ → ℕ → EditedFace
-editedFace (Done n m) items written = record { reply = 0; items = n; written = m }
-editedFace (Refused r) items written = record { reply = numberOf r; items = items; written = written }

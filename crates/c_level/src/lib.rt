@@ -7,7 +7,7 @@ ghost use Rattle.area_edit.specs.Edits.{answer, bytes};
 ghost use Rattle.calls.specs.Calls.{Level, levelPlan, undoPlan};
 ghost use Rattle.area_shift.specs.Shift.{shiftPlan};
 ghost use Rattle.level.specs.Answers.{levelAnswer, levelBytes, leftAfter, rightAfter};
-ghost use Rattle.c_items.specs.ItemsFace.{editedFace};
+ghost use Rattle.c_area.specs.AreaFace.{editedFace};
 ghost use Rattle.c_level.specs.LevelFace.{levelFace};
 use area_edit::Edited;
 use frame::GainMode;

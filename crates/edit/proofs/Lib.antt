@@ -1,4 +1,2 @@
-pub mod Clean
-pub mod Gates
 pub mod Rewriting
 pub mod Plans

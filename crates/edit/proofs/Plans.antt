@@ -14,30 +14,8 @@ use Rattle.items.specs.Items.{setItem, removeItem}
 use Rattle.items.proofs.Places.{set-holds}
 use Rattle.calls.specs.Gate.{passesGate, itemsOf}
 use Rattle.calls.specs.Calls.{setPlan, removePlan}
-use Rattle.edit.specs.declared.Editable.{Editable}
-use Rattle.edit.specs.declared.Editable.the-variants.{Items, Unfit}
-use Rattle.edit.specs.Gate.{areaPlace, gateOf, Passed, tagPlan}
-use Rattle.edit.proofs.Gates.{gate-is}
+use Rattle.edit.specs.Finish.{tagPlan}
 use Rattle.edit.proofs.Rewriting.{too-long}
-
--- ---- the two answers of the gate
-
-pub gate-unfit : (s : List ℕ) (g : Editable) → g ≡ gateOf s → g ≡ Unfit → passesGate s ≡ false
-gate-unfit s g h e = rw e at (gate-is s g h)
-
-pub gate-passed : (s : List ℕ) (g : Editable) (a b n : ℕ) → g ≡ gateOf s → g ≡ Items a b n → Passed s a b n
-gate-passed s g a b n h e = rw e at (gate-is s g h)
-
--- where the items stand
-pub gate-place : (s : List ℕ) (g : Editable) (a b n : ℕ) → g ≡ gateOf s → g ≡ Items a b n
-    → (passesGate s ≡ true) × (a ≡ areaPlace s .start) × (b ≡ areaPlace s .end) × (n ≡ areaPlace s .count)
-unfolding gateOf
-gate-place s g a b n h e =
-    let p = gate-passed s g a b n h e .passes in
-    let i : Items a b n ≡ Items (areaPlace s .start) (areaPlace s .end) (areaPlace s .count) = sym e ∙ h ∙ rw p in
-    (p, (cc), (cc), (cc))
-
--- ---- set and remove
 
 module _ (file key value : List ℕ) (room : ℕ) where
   pub set-1 : 16777216 < length file → setPlan file key value room ≡ no FileTooLong

@@ -1,118 +1,23 @@
-// The editing gate, and set and remove on a whole file.
+// Set and remove on a whole file that the gate passes.
 ghost use mathlib.Core.Path.{_≡_};
 ghost use mathlib.Core.Bool.{true};
 ghost use Prim.Native.Nat.{_≤_, _+_, _-_};
 ghost use lib.ListN.{length};
-ghost use Rattle.lists.specs.Choice.{provided, isSome};
+ghost use Rattle.lists.specs.Choice.{isSome};
 ghost use Rattle.lists.specs.Write.{over};
-ghost use Rattle.utf8.specs.Utf8.{Classes};
 ghost use Rattle.keys.specs.Keys.{isKey};
 ghost use Rattle.items.specs.Items.{parse, itemsIn, setItem, without};
-ghost use Rattle.area_edit.specs.Edits.{dropped};
+ghost use Rattle.area_drop.specs.Drops.{dropped};
 ghost use Rattle.ape_write.specs.Answers.{writtenAnswer, writtenBytes};
-ghost use Rattle.calls.specs.Gate.{allValid, itemsOf};
+ghost use Rattle.calls.specs.Gate.{itemsOf};
 ghost use Rattle.calls.specs.Calls.{setPlan, removePlan};
-ghost use Rattle.edit.specs.Gate.{gateOf, Passed, tagPlan};
-use ape::Footer;
+ghost use Rattle.gate.specs.Gate.{Passed};
+ghost use Rattle.edit.specs.Finish.{tagPlan};
 use ape_write::Written;
-use area_edit::Drop;
-use area_edit::Measured;
-use frame::TagStart;
-use items::Stepped;
+use area_drop::Drop;
+use area_drop::Measured;
+use gate::Editable;
 use replies::Refusal;
-
-// Where the items of a file stand that is fit for editing: an empty part where it has no tag.
-pub enum Editable {
-    Items {
-        start: usize,
-        end: usize,
-        count: usize,
-    },
-    Unfit,
-}
-
-// Whether the keys and values of a well-formed area are UTF-8.
-fn all_valid(table: &[u8; 256], area: &[u8], count: usize) -> bool
-    requires { ⌜ (Classes (now table)) × (isSome (parse count (now area)) ≡ true) ⌝ }
-    ensures { λ r. ⌜ r ≡ allValid (itemsIn count (now (area .entry))) ⌝ }
-{
-    let mut at = 0;
-    let mut left = count;
-    while 0 < left {
-        let s = items::step(area, at);
-        let Stepped::Item {
-            flags: _,
-            key_start,
-            key_end,
-            value_start,
-            value_end,
-        } = s
-        else {
-            return false;
-        };
-        if !utf8::is_utf8_by(table, &area[key_start..key_end]) {
-            return false;
-        }
-        if !utf8::is_utf8_by(table, &area[value_start..value_end]) {
-            return false;
-        }
-        at = value_end;
-        left -= 1;
-    }
-    true
-}
-
-// Whether the area is exactly `count` items whose keys and values are UTF-8.
-fn is_clean(area: &[u8], count: usize) -> bool
-    ensures { λ r. ⌜ r ≡ isSome (provided allValid (parse count (now (area .entry)))) ⌝ }
-{
-    if !items::well_formed(area, count) {
-        return false;
-    }
-    let table = utf8::class_table();
-    all_valid(&table, area, count)
-}
-
-// Where the items of the file's tag stand, if the file is fit for editing.
-pub fn gate(file: &[u8]) -> Editable
-    ensures { λ r. ⌜ r ≡ gateOf (now (file .entry)) ⌝ }
-{
-    let found = ape::find_footer(file);
-    let Footer::At(footer) = found else {
-        return Editable::Items {
-            start: 0,
-            end: 0,
-            count: 0,
-        };
-    };
-    if frame::read_u32_le(file, footer + 8) != 2000 {
-        return Editable::Unfit;
-    }
-    let size = frame::read_u32_le(file, footer + 12) as usize;
-    if size < 32 {
-        return Editable::Unfit;
-    }
-    let s = frame::ape_tag_start(file, footer);
-    let TagStart::At(_) = s else {
-        return Editable::Unfit;
-    };
-    let count = frame::read_u32_le(file, footer + 16) as usize;
-    if replies::COUNT_LIMIT < count {
-        return Editable::Unfit;
-    }
-    if 32 + replies::AREA_LIMIT < size {
-        return Editable::Unfit;
-    }
-    let start = footer + 32 - size;
-    if !is_clean(&file[start..footer], count) {
-        return Editable::Unfit;
-    }
-    Editable::Items {
-        start,
-        end: footer,
-        count,
-    }
-}
 
 // Room for the items of a tag while they are edited: the items of a file that is fit for editing, one more, and some.
 pub fn scratch() -> [u8; 66048]
@@ -203,7 +108,7 @@ pub fn set_ape_item(file: &[u8], key: &[u8], value: &[u8], out: &mut [u8]) -> Wr
     if !utf8::is_utf8(value) {
         return Written::Refused(Refusal::NotUtf8);
     }
-    let g = gate(file);
+    let g = gate::gate(file);
     let Editable::Items { start, end, count } = g else {
         return Written::Refused(Refusal::NotEditable);
     };
@@ -229,7 +134,7 @@ fn drop_items_in(
         (r ≡ writtenAnswer plan) × (now (out .exit) ≡ over (writtenBytes plan) (now (out .entry)))) ⌝ }
 {
     let area = &file[start..end];
-    let m = area_edit::measure_without(area, count, what, key);
+    let m = area_drop::measure_without(area, count, what, key);
     let Measured::Size {
         count: left,
         length: _,
@@ -237,7 +142,7 @@ fn drop_items_in(
     else {
         return Written::Refused(Refusal::NotEditable);
     };
-    let n = area_edit::write_without(area, count, what, key, new);
+    let n = area_drop::write_without(area, count, what, key, new);
     finish(file, &new[0..n], left, out)
 }
 
@@ -274,7 +179,7 @@ pub fn remove_ape_item(file: &[u8], key: &[u8], out: &mut [u8]) -> Written
     if !keys::is_key(key) {
         return Written::Refused(Refusal::BadKey);
     }
-    let g = gate(file);
+    let g = gate::gate(file);
     let Editable::Items { start, end, count } = g else {
         return Written::Refused(Refusal::NotEditable);
     };

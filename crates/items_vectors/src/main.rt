@@ -143,7 +143,7 @@ fn remove(text: &[u8], at: usize) -> bool {
     let n = vectors::hex_bytes(text, key_at, &mut name);
     let count = vectors::unsigned(text, at) as usize;
     let mut out = [0u8; 8192];
-    let e = area_edit::remove(&area[0..m], count, &name[0..n], &mut out);
+    let e = area_drop::remove(&area[0..m], count, &name[0..n], &mut out);
     edited(text, vectors::next_word(text, key_at), e, &out)
 }
 
@@ -154,7 +154,7 @@ fn remove_replaygain(text: &[u8], at: usize) -> bool {
     let m = vectors::hex_bytes(text, area_at, &mut area);
     let count = vectors::unsigned(text, at) as usize;
     let mut out = [0u8; 8192];
-    let e = area_edit::remove_replaygain(&area[0..m], count, &mut out);
+    let e = area_drop::remove_replaygain(&area[0..m], count, &mut out);
     edited(text, vectors::next_word(text, area_at), e, &out)
 }
 
@@ -165,7 +165,7 @@ fn drop_undone(text: &[u8], at: usize) -> bool {
     let m = vectors::hex_bytes(text, area_at, &mut area);
     let count = vectors::unsigned(text, at) as usize;
     let mut out = [0u8; 8192];
-    let e = area_edit::drop_undone(&area[0..m], count, &mut out);
+    let e = area_drop::drop_undone(&area[0..m], count, &mut out);
     edited(text, vectors::next_word(text, area_at), e, &out)
 }
 
@@ -176,7 +176,7 @@ fn take_mp3gain(text: &[u8], at: usize) -> bool {
     let m = vectors::hex_bytes(text, area_at, &mut area);
     let count = vectors::unsigned(text, at) as usize;
     let mut out = [0u8; 8192];
-    let e = area_edit::take_mp3gain(&area[0..m], count, &mut out);
+    let e = area_drop::take_mp3gain(&area[0..m], count, &mut out);
     edited(text, vectors::next_word(text, area_at), e, &out)
 }
 

@@ -22,7 +22,7 @@ use Rattle.ape_write.specs.declared.Written.the-variants.{Done as Wrote, Refuse
 use Rattle.ape_write.specs.Answers.{writtenAnswer, writtenBytes}
 use Rattle.calls.specs.Gate.{passesGate, itemsOf, tagFits}
 use Rattle.calls.specs.Calls.{Level, Levelled, storedUndo, agrees, booked, numbersFit, rangeOf, adjusted, levelItems, newItems, isThere, levelGives, levelPlan}
-use Rattle.edit.specs.Gate.{tagPlan}
+use Rattle.edit.specs.Finish.{tagPlan}
 use Rattle.level_items.specs.Items.{undoneItems, rangedItems}
 use Rattle.level.specs.declared.Booked.{Booked}
 use Rattle.level.specs.declared.Booked.the-variants.{Numbers, Refused as Unbooked}

@@ -10,13 +10,14 @@ ghost use Rattle.items.specs.Answers.{isThere, valueOf};
 ghost use Rattle.ape_write.specs.Answers.{writtenBytes};
 ghost use Rattle.calls.specs.Gate.{itemsOf};
 ghost use Rattle.calls.specs.Calls.{Level, agrees, isUndoNumber, booked, countOf, isPeakKey, levelPlan};
-ghost use Rattle.edit.specs.Gate.{Passed, tagPlan};
+ghost use Rattle.gate.specs.Gate.{Passed};
+ghost use Rattle.edit.specs.Finish.{tagPlan};
 ghost use Rattle.level_items.specs.Items.{rangedItems};
 ghost use Rattle.level.specs.Answers.{levelAnswer, levelBytes, leftAfter, rightAfter, bookedPlan, bookedAnswer, lastPlan, filedAnswer};
 use ape_write::Written;
-use edit::Editable;
 use frame::GainMode;
 use frame::GainSteps;
+use gate::Editable;
 use items::Found;
 use replies::Refusal;
 use values::Range;
@@ -262,7 +263,7 @@ pub fn level(
     if left.len() == 0 {
         return LevelAnswer::Refused(Refusal::NoLeftGains);
     }
-    let g = edit::gate(file);
+    let g = gate::gate(file);
     let Editable::Items { start, end, count } = g else {
         return LevelAnswer::Refused(Refusal::NotEditable);
     };

@@ -12,9 +12,9 @@ ghost use Rattle.values.specs.Range.{formatRange};
 ghost use Rattle.items.specs.Items.{areaBytes, parse, itemsIn, setItem};
 ghost use Rattle.calls.specs.Calls.{Level, wraps as wrapsBy, shiftedItems, countOf, isPeakKey};
 ghost use Rattle.level_items.specs.Items.{Wrote, undoneItems, rangedItems};
-use area_edit::Drop;
+use area_drop::Drop;
+use area_drop::Measured;
 use area_edit::Measure;
-use area_edit::Measured;
 use frame::GainMode;
 use frame::GainSteps;
 use items::Stepped;
@@ -83,7 +83,7 @@ fn put_moved(
     if left.0 == right.0 {
         return area_shift::write_shifted(area, count, left, mode, out);
     }
-    let m = area_edit::measure_without(area, count, Drop::Undone, b"");
+    let m = area_drop::measure_without(area, count, Drop::Undone, b"");
     let Measured::Size {
         count: n,
         length: _,
@@ -91,7 +91,7 @@ fn put_moved(
     else {
         return Measure { count, length: 0 };
     };
-    let end = area_edit::write_without(area, count, Drop::Undone, b"", out);
+    let end = area_drop::write_without(area, count, Drop::Undone, b"", out);
     Measure {
         count: n,
         length: end,

@@ -21,8 +21,10 @@ use Rattle.ape.specs.Answers.{hasRoom}
 use Rattle.ape_write.specs.declared.Written.{Written}
 use Rattle.ape_write.specs.declared.Written.the-variants.{Done, Refused}
 use Rattle.ape_write.specs.Answers.{roomPlan, writtenAnswer, writtenBytes}
-use Rattle.edit.specs.Gate.{Passed, tagPlan}
-use Rattle.edit.proofs.Rewriting.{fits-tag, short-items}
+use Rattle.gate.specs.Gate.{Passed}
+use Rattle.gate.proofs.Gates.{short-items}
+use Rattle.edit.specs.Finish.{tagPlan}
+use Rattle.edit.proofs.Rewriting.{fits-tag}
 use Rattle.calls.specs.Gate.{passesGate, itemsOf}
 use lib.IntN.{ℤ}
 use Rattle.frame.specs.declared.GainMode.{GainMode}

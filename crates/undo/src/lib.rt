@@ -9,10 +9,10 @@ ghost use Rattle.calls.specs.Calls.{storedUndo, undoPlan};
 ghost use Rattle.level.specs.Answers.{levelAnswer, levelBytes, leftAfter, rightAfter};
 ghost use Rattle.undo.specs.Stored.{undoIs};
 use ape_write::Written;
-use area_edit::Drop;
-use edit::Editable;
+use area_drop::Drop;
 use frame::GainMode;
 use frame::GainSteps;
+use gate::Editable;
 use level::LevelAnswer;
 use replies::Refusal;
 
@@ -53,7 +53,7 @@ pub fn undo(file: &[u8], left: &mut [u8], right: &mut [u8], out: &mut [u8]) -> L
     if left.len() == 0 {
         return LevelAnswer::Refused(Refusal::NoLeftGains);
     }
-    let g = edit::gate(file);
+    let g = gate::gate(file);
     let Editable::Items { start, end, count } = g else {
         return LevelAnswer::Refused(Refusal::NotEditable);
     };

@@ -1,4 +1,4 @@
-//! Crates `edit` and `undo`: the gate, set and remove on a file, and undo on a file and its gains; with `level` and `shift`, the level call
+//! Crates `gate`, `edit` and `undo`: the gate, set and remove on a file, and undo on a file and its gains; with `level` and `shift`, the level call
 //! and the shift of an item area.
 //!
 //! The editing gate and the refusals are not in the published Rust: they are read here a second time from document 01. What an

@@ -1,4 +1,4 @@
-//! Crates `keys`, `items`, `area_edit`, `area_values` and `area_gains`: the item area beside the published `ApeTag`.
+//! Crates `keys`, `items`, `area_edit`, `area_drop`, `area_values` and `area_gains`: the item area beside the published `ApeTag`.
 
 use super::ape::{self, area_of, is_area, item, tag_of, written};
 use super::Case;

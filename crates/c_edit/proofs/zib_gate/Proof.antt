@@ -3,7 +3,7 @@ use mathlib.Core.Bool.{false}
 use borrow.Author.Needs.{needs}
 use borrow.Author.Tests.{le-leb, lt-leb}
 use Rattle.calls.specs.Gate.{passesGate}
-use Rattle.edit.proofs.Plans.{gate-unfit, gate-place}
+use Rattle.gate.proofs.Gates.{gate-unfit, gate-place}
 use Rattle.c_edit.proofs.zib_gate.Statement.{statement}
 use Rattle.c_edit.proofs.zib_gate.Tie as tie
 

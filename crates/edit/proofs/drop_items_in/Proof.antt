@@ -11,8 +11,8 @@ use Rattle.lists.specs.Write.{part}
 use Rattle.lists.proofs.Places.{length-part}
 use Rattle.items.specs.Items.{Item, areaBytes, parse, itemsIn, without}
 use Rattle.items.proofs.ItemLaws.{area-without, sane-without, parse-sane}
-use Rattle.area_edit.specs.Edits.{dropped}
-use Rattle.area_edit.proofs.Plans.{Sized, sized, unsized}
+use Rattle.area_drop.specs.Drops.{dropped}
+use Rattle.area_drop.proofs.Plans.{Sized, sized, unsized}
 use Rattle.calls.specs.Gate.{itemsOf}
 use Rattle.items.proofs.Area.{area-length, read-back, back-good}
 use Rattle.edit.proofs.drop_items_in.Statement.{statement}

@@ -6,8 +6,9 @@ use borrow.Author.Needs.{needs}
 use borrow.Author.Tests.{not-true, not-false}
 use lib.ListN.{length}
 use Rattle.keys.specs.Keys.{isKey}
-use Rattle.edit.specs.Gate.{Passed}
-use Rattle.edit.proofs.Plans.{gate-unfit, gate-passed, remove-1, remove-3, remove-8, remove-rest}
+use Rattle.gate.specs.Gate.{Passed}
+use Rattle.gate.proofs.Gates.{gate-unfit, gate-passed}
+use Rattle.edit.proofs.Plans.{remove-1, remove-3, remove-8, remove-rest}
 use Rattle.edit.proofs.remove_ape_item.Statement.{statement}
 use Rattle.edit.proofs.remove_ape_item.Tie as tie
 

@@ -6,8 +6,9 @@ use borrow.Author.Tests.{not-true, not-false}
 use lib.ListN.{length}
 use Rattle.utf8.specs.Utf8.{valid}
 use Rattle.keys.specs.Keys.{isKey}
-use Rattle.edit.specs.Gate.{Passed}
-use Rattle.edit.proofs.Plans.{gate-unfit, gate-passed, set-1, set-3, set-4, set-8, set-6, set-rest}
+use Rattle.gate.specs.Gate.{Passed}
+use Rattle.gate.proofs.Gates.{gate-unfit, gate-passed}
+use Rattle.edit.proofs.Plans.{set-1, set-3, set-4, set-8, set-6, set-rest}
 use Rattle.edit.proofs.set_ape_item.Statement.{statement}
 use Rattle.edit.proofs.set_ape_item.Tie as tie
 

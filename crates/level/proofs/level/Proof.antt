@@ -14,8 +14,8 @@ use Rattle.replies.specs.Refusal.{Plan, no, yes}
 use Rattle.slip.specs.Slip.{isStep}
 use Rattle.calls.specs.Gate.{itemsOf}
 use Rattle.calls.specs.Calls.{Level, isThere}
-use Rattle.edit.specs.Gate.{Passed}
-use Rattle.edit.proofs.Plans.{gate-unfit, gate-passed}
+use Rattle.gate.specs.Gate.{Passed}
+use Rattle.gate.proofs.Gates.{gate-unfit, gate-passed}
 use Rattle.level.specs.Answers.{bookedPlan, bookedAnswer}
 use Rattle.level.proofs.Levelling.{there, not-there, numbers-yes, numbers-no, numbers-are, level-1, level-2, level-2-right, level-7, level-8, level-booked, level-last}
 use Rattle.level.proofs.level.Statement.{statement}

@@ -9,7 +9,7 @@ use Rattle.lists.specs.Write.{over}
 use Rattle.calls.specs.Gate.{itemsOf}
 use Rattle.calls.specs.Calls.{Level, countOf, isPeakKey, newItems}
 use Rattle.ape_write.specs.Answers.{writtenBytes}
-use Rattle.edit.specs.Gate.{tagPlan}
+use Rattle.edit.specs.Finish.{tagPlan}
 use Rattle.level_items.specs.Items.{rangedItems}
 use Rattle.level.specs.Answers.{filedAnswer}
 use Rattle.level.proofs.Levelling.{new-is, last-refused, last-done}

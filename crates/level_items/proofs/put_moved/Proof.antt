@@ -12,7 +12,7 @@ use lib.ListN.{length}
 use lib.IntN.{ℤ}
 use Rattle.keys.specs.Keys.{isUndone}
 use Rattle.items.specs.Items.{Item, areaBytes, itemsIn, without}
-use Rattle.area_edit.proofs.Plans.{sized, unsized}
+use Rattle.area_drop.proofs.Plans.{sized, unsized}
 use Rattle.calls.specs.Calls.{Level, shiftedItems, shiftStoredGain}
 use Rattle.level_items.proofs.Moved.{moved-equal, moved-other}
 use Rattle.level_items.proofs.put_moved.Statement.{statement}

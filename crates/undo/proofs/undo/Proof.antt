@@ -17,8 +17,8 @@ use Rattle.values.proofs.ReadBack.{undo-small}
 use Rattle.items.specs.Items.{itemsIn}
 use Rattle.calls.specs.Gate.{itemsOf}
 use Rattle.calls.specs.Calls.{isThere, storedUndo, others}
-use Rattle.edit.specs.Gate.{Passed}
-use Rattle.edit.proofs.Plans.{gate-unfit, gate-passed}
+use Rattle.gate.specs.Gate.{Passed}
+use Rattle.gate.proofs.Gates.{gate-unfit, gate-passed}
 use Rattle.level.specs.declared.LevelAnswer.the-variants.{Done}
 use Rattle.undo.specs.Stored.{undoIs}
 use Rattle.level.proofs.Levelling.{there, not-there}

@@ -1,0 +1,3 @@
+pub mod Dropping
+pub mod Plans
+pub mod Again

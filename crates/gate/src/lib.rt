@@ -1,0 +1,104 @@
+// The editing gate: whether a file is fit for editing, and where the items of its tag stand.
+ghost use mathlib.Core.Path.{_≡_};
+ghost use mathlib.Core.Bool.{true};
+ghost use Rattle.lists.specs.Choice.{provided, isSome};
+ghost use Rattle.utf8.specs.Utf8.{Classes};
+ghost use Rattle.items.specs.Items.{parse, itemsIn};
+ghost use Rattle.calls.specs.Gate.{allValid};
+ghost use Rattle.gate.specs.Gate.{gateOf};
+use ape::Footer;
+use frame::TagStart;
+use items::Stepped;
+
+// Where the items of a file stand that is fit for editing: an empty part where it has no tag.
+pub enum Editable {
+    Items {
+        start: usize,
+        end: usize,
+        count: usize,
+    },
+    Unfit,
+}
+
+// Whether the keys and values of a well-formed area are UTF-8.
+fn all_valid(table: &[u8; 256], area: &[u8], count: usize) -> bool
+    requires { ⌜ (Classes (now table)) × (isSome (parse count (now area)) ≡ true) ⌝ }
+    ensures { λ r. ⌜ r ≡ allValid (itemsIn count (now (area .entry))) ⌝ }
+{
+    let mut at = 0;
+    let mut left = count;
+    while 0 < left {
+        let s = items::step(area, at);
+        let Stepped::Item {
+            flags: _,
+            key_start,
+            key_end,
+            value_start,
+            value_end,
+        } = s
+        else {
+            return false;
+        };
+        if !utf8::is_utf8_by(table, &area[key_start..key_end]) {
+            return false;
+        }
+        if !utf8::is_utf8_by(table, &area[value_start..value_end]) {
+            return false;
+        }
+        at = value_end;
+        left -= 1;
+    }
+    true
+}
+
+// Whether the area is exactly `count` items whose keys and values are UTF-8.
+fn is_clean(area: &[u8], count: usize) -> bool
+    ensures { λ r. ⌜ r ≡ isSome (provided allValid (parse count (now (area .entry)))) ⌝ }
+{
+    if !items::well_formed(area, count) {
+        return false;
+    }
+    let table = utf8::class_table();
+    all_valid(&table, area, count)
+}
+
+// Where the items of the file's tag stand, if the file is fit for editing.
+pub fn gate(file: &[u8]) -> Editable
+    ensures { λ r. ⌜ r ≡ gateOf (now (file .entry)) ⌝ }
+{
+    let found = ape::find_footer(file);
+    let Footer::At(footer) = found else {
+        return Editable::Items {
+            start: 0,
+            end: 0,
+            count: 0,
+        };
+    };
+    if frame::read_u32_le(file, footer + 8) != 2000 {
+        return Editable::Unfit;
+    }
+    let size = frame::read_u32_le(file, footer + 12) as usize;
+    if size < 32 {
+        return Editable::Unfit;
+    }
+    let s = frame::ape_tag_start(file, footer);
+    let TagStart::At(_) = s else {
+        return Editable::Unfit;
+    };
+    let count = frame::read_u32_le(file, footer + 16) as usize;
+    if replies::COUNT_LIMIT < count {
+        return Editable::Unfit;
+    }
+    if 32 + replies::AREA_LIMIT < size {
+        return Editable::Unfit;
+    }
+    let start = footer + 32 - size;
+    if !is_clean(&file[start..footer], count) {
+        return Editable::Unfit;
+    }
+    Editable::Items {
+        start,
+        end: footer,
+        count,
+    }
+}
