@@ -1,7 +1,7 @@
 // Replays the recorded answers for crates edit, level, undo and area_shift.
 use ape_write::Written;
 use area_edit::Edited;
-use edit::Editable;
+use gate::Editable;
 use frame::GainMode;
 use frame::GainSteps;
 use level::LevelAnswer;
@@ -218,7 +218,7 @@ fn gate(text: &[u8], at: usize) -> bool {
     let n = vectors::hex_bytes(text, at, &mut file);
     let reply_at = vectors::next_word(text, at);
     let reply = vectors::unsigned(text, reply_at);
-    let g = edit::gate(&file[0..n]);
+    let g = gate::gate(&file[0..n]);
     let Editable::Items { start, end, count } = g else {
         return reply == replies::number(Refusal::NotEditable) as u64;
     };
