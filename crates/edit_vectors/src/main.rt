@@ -1,9 +1,9 @@
 // Replays the recorded answers for crates edit, level, undo and area_shift.
 use ape_write::Written;
 use area_edit::Edited;
-use gate::Editable;
 use frame::GainMode;
 use frame::GainSteps;
+use gate::Editable;
 use level::LevelAnswer;
 use replies::Refusal;
 use vectors::Replay;
