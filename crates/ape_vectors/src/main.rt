@@ -3,20 +3,20 @@ use ape::FooterFound;
 use ape::TagRead;
 use ape_write::Written;
 use vectors::Replay;
-use vectors::is_hex;
+use words::is_hex;
 
 // `footer FILE PLACE`: where the footer stands, or `none`.
 fn footer(text: &[u8], at: usize) -> bool {
     let mut file = [0u8; 2048];
-    let n = vectors::hex_bytes(text, at, &mut file);
-    let place = vectors::next_word(text, at);
+    let n = words::hex_bytes(text, at, &mut file);
+    let place = words::next_word(text, at);
     let f = ape::find_ape_footer(&file[0..n]);
     match f {
         FooterFound::At(found) => {
             if lists::starts_with(text, place, b"none") {
                 return false;
             }
-            found as u64 == vectors::unsigned(text, place)
+            found as u64 == words::unsigned(text, place)
         }
         FooterFound::Nowhere => lists::starts_with(text, place, b"none"),
         FooterFound::Refused(_) => false,
@@ -26,9 +26,9 @@ fn footer(text: &[u8], at: usize) -> bool {
 // `read FILE COUNT AREA`: how many items and their area, or `none -`.
 fn read(text: &[u8], at: usize) -> bool {
     let mut file = [0u8; 2048];
-    let n = vectors::hex_bytes(text, at, &mut file);
-    let count_at = vectors::next_word(text, at);
-    let area_at = vectors::next_word(text, count_at);
+    let n = words::hex_bytes(text, at, &mut file);
+    let count_at = words::next_word(text, at);
+    let area_at = words::next_word(text, count_at);
     let mut area = [0u8; 8192];
     let t = ape::read_ape_tag(&file[0..n], &mut area);
     match t {
@@ -37,7 +37,7 @@ fn read(text: &[u8], at: usize) -> bool {
             if lists::starts_with(text, count_at, b"none") {
                 return false;
             }
-            if count as u64 != vectors::unsigned(text, count_at) {
+            if count as u64 != words::unsigned(text, count_at) {
                 return false;
             }
             if 8192 < length {
@@ -63,31 +63,31 @@ fn wrote(text: &[u8], at: usize, w: Written, out: &[u8]) -> bool {
 // `replace FILE COUNT AREA FILE`.
 fn replace(text: &[u8], at: usize) -> bool {
     let mut file = [0u8; 2048];
-    let n = vectors::hex_bytes(text, at, &mut file);
-    let count_at = vectors::next_word(text, at);
-    let area_at = vectors::next_word(text, count_at);
+    let n = words::hex_bytes(text, at, &mut file);
+    let count_at = words::next_word(text, at);
+    let area_at = words::next_word(text, count_at);
     let mut area = [0u8; 2048];
-    let m = vectors::hex_bytes(text, area_at, &mut area);
-    let count = vectors::unsigned(text, count_at) as usize;
+    let m = words::hex_bytes(text, area_at, &mut area);
+    let count = words::unsigned(text, count_at) as usize;
     let mut out = [0u8; 8192];
     let w = ape_write::replace_ape_tag(&file[0..n], &area[0..m], count, &mut out);
-    wrote(text, vectors::next_word(text, area_at), w, &out)
+    wrote(text, words::next_word(text, area_at), w, &out)
 }
 
 // `serialize COUNT AREA TAG`.
 fn serialize(text: &[u8], at: usize) -> bool {
-    let area_at = vectors::next_word(text, at);
+    let area_at = words::next_word(text, at);
     let mut area = [0u8; 2048];
-    let m = vectors::hex_bytes(text, area_at, &mut area);
-    let count = vectors::unsigned(text, at) as usize;
+    let m = words::hex_bytes(text, area_at, &mut area);
+    let count = words::unsigned(text, at) as usize;
     let mut out = [0u8; 8192];
     let w = ape_write::serialize_ape_tag(&area[0..m], count, &mut out);
-    wrote(text, vectors::next_word(text, area_at), w, &out)
+    wrote(text, words::next_word(text, area_at), w, &out)
 }
 
 // Whether the answer in the line at this place is the library's.
 fn agrees(text: &[u8], at: usize) -> bool {
-    let from = vectors::next_word(text, at);
+    let from = words::next_word(text, at);
     if lists::starts_with(text, at, b"footer ") {
         return footer(text, from);
     }

@@ -6,8 +6,8 @@ use vectors::Replay;
 // `utf8 TEXT BOOL`.
 fn well_formed(text: &[u8], at: usize) -> bool {
     let mut s = [0u8; 1024];
-    let n = vectors::hex_bytes(text, at, &mut s);
-    utf8::is_utf8(&s[0..n]) == lists::starts_with(text, vectors::next_word(text, at), b"1")
+    let n = words::hex_bytes(text, at, &mut s);
+    utf8::is_utf8(&s[0..n]) == lists::starts_with(text, words::next_word(text, at), b"1")
 }
 
 // Whether the conversion fits and has this length.
@@ -49,9 +49,9 @@ fn refuses(s: &[u8], m: usize) -> bool
 // `lossy TEXT CONVERTED`: in exactly enough room, and in one byte less.
 fn lossy(text: &[u8], at: usize) -> bool {
     let mut s = [0u8; 1024];
-    let n = vectors::hex_bytes(text, at, &mut s);
+    let n = words::hex_bytes(text, at, &mut s);
     let mut wanted = [0u8; 3072];
-    let m = vectors::hex_bytes(text, vectors::next_word(text, at), &mut wanted);
+    let m = words::hex_bytes(text, words::next_word(text, at), &mut wanted);
     if 0 < m {
         if !refuses(&s[0..n], m - 1) {
             return false;
@@ -62,7 +62,7 @@ fn lossy(text: &[u8], at: usize) -> bool {
 
 // Whether the answer in the line at this place is the library's.
 fn agrees(text: &[u8], at: usize) -> bool {
-    let from = vectors::next_word(text, at);
+    let from = words::next_word(text, at);
     if lists::starts_with(text, at, b"utf8 ") {
         return well_formed(text, from);
     }

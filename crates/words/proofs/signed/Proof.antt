@@ -7,10 +7,10 @@ use mir.Val.{SFits}
 use mir.Facts.{toZ-ofZ}
 use lib.ListN.{length, drop}
 use lib.IntN.{pos}
-use Rattle.vectors.specs.Words.{unsignedOf, below, signedOf}
-use Rattle.vectors.proofs.Signs.{past, minus, plain, below-some}
-use Rattle.vectors.proofs.signed.Statement.{statement}
-use Rattle.vectors.proofs.signed.Tie as tie
+use Rattle.words.specs.Words.{unsignedOf, below, signedOf}
+use Rattle.words.proofs.Signs.{past, minus, plain, below-some}
+use Rattle.words.proofs.signed.Statement.{statement}
+use Rattle.words.proofs.signed.Tie as tie
 
 returns : tie.Need-returns
 returns c = let g = c .before .before .args in sym (past (g .text .now) (g .at) (c .if1 .taken))

@@ -1,11 +1,15 @@
--- Numbers and bytes in the words of a line.
-use Prim.Native.Nat.{ℕ, zero, suc, _+_, _-_, _*_, _%_, _^_}
+-- The words of a line: the next one, and the numbers and bytes in them.
+use Prim.Native.Nat.{ℕ, zero, suc, _+_, _-_, _*_, _%_, _^_, min}
 use mathlib.Core.Bool.{cond}
 use mathlib.Core.List.{List, [], _∷_}
-use lib.Bits.{bitXor}
+use lib.ListN.{length, drop}
 use lib.Dec.{ltb, eqb}
 use lib.IntN.{ℤ, pos, negsuc}
-use Rattle.lists.specs.Bytes.{among}
+use Rattle.lists.specs.Bytes.{among, placeOf}
+
+-- the place behind the first c from at, or the end of s where there is none
+abbrev pub behind : ℕ → List ℕ → ℕ → ℕ
+behind c s at = min (at + placeOf c (drop at s) + 1) (length s)
 
 -- what a hex digit stands for; 256 for any other byte
 abbrev pub digit : ℕ → ℕ
@@ -41,7 +45,3 @@ unfoldable pub hexBytes : List ℕ → List ℕ
 hexBytes [] = []
 hexBytes (h ∷ []) = []
 hexBytes (h ∷ l ∷ s) = cond (ltb (digit h * 16 + digit l) 256) ((digit h * 16 + digit l) ∷ hexBytes s) []
-
--- FNV-1a of 64 bits: one more byte
-abbrev pub digestOf : ℕ → ℕ → ℕ
-digestOf h b = bitXor h b * 0x100000001B3 % 2 ^ 64

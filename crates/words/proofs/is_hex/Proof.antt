@@ -6,10 +6,10 @@ use native.Mathlib.Omega.{arith}
 use borrow.Author.Needs.{needs}
 use lib.ListN.{length, drop, getD, length-drop}
 use Rattle.lists.specs.Bytes.{same}
-use Rattle.vectors.specs.Words.{hexByte, hexBytes}
-use Rattle.vectors.proofs.Hex.{long-enough, same-turn, same-not, same-end}
-use Rattle.vectors.proofs.is_hex.Statement.{statement}
-use Rattle.vectors.proofs.is_hex.Tie as tie
+use Rattle.words.specs.Words.{hexByte, hexBytes}
+use Rattle.words.proofs.Hex.{long-enough, same-turn, same-not, same-end}
+use Rattle.words.proofs.is_hex.Statement.{statement}
+use Rattle.words.proofs.is_hex.Tie as tie
 
 abbrev Inv-loop : tie.InvT-loop
 Inv-loop text at bytes i₀ n₀ i n = (n ≤ length bytes) × (same (hexBytes (drop at text)) bytes ≡ same (hexBytes (drop i text)) (drop n bytes))

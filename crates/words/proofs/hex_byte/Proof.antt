@@ -3,9 +3,9 @@ use Prim.Native.Nat.{ℕ, _+_, _*_, _<_, _≤_}
 use native.Mathlib.Omega.{arith}
 use borrow.Author.Needs.{needs}
 use lib.ListN.{length, drop, length-drop}
-use Rattle.vectors.proofs.Hex.{too-short, byte-there}
-use Rattle.vectors.proofs.hex_byte.Statement.{statement}
-use Rattle.vectors.proofs.hex_byte.Tie as tie
+use Rattle.words.proofs.Hex.{too-short, byte-there}
+use Rattle.words.proofs.hex_byte.Statement.{statement}
+use Rattle.words.proofs.hex_byte.Tie as tie
 
 returns : tie.Need-returns
 returns c =

@@ -13,7 +13,7 @@ use borrow.Author.Tests.{lt-ltb, le-ltb, ltb-true, ltb-false, eq-eqb, ne-eqb}
 use Rattle.integers.proofs.Sign.{cases}
 use Rattle.lists.specs.Bytes.{same}
 use Rattle.lists.specs.Write.{over}
-use Rattle.vectors.specs.Words.{digit, hexByte, hexBytes}
+use Rattle.words.specs.Words.{digit, hexByte, hexBytes}
 
 pub too-short : (s : List ℕ) → length s < 2 → hexByte s ≡ 256
 too-short [] h = refl

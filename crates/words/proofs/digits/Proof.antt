@@ -5,10 +5,10 @@ use native.Mathlib.Omega.{arith}
 use native.Mathlib.Nat.{mod-eq-of-lt}
 use borrow.Author.Needs.{needs}
 use lib.ListN.{length, drop, getD}
-use Rattle.vectors.specs.Words.{digit, number}
-use Rattle.vectors.proofs.Numbers.{at-end, other, one-more, alike, last-digits, room}
-use Rattle.vectors.proofs.digits.Statement.{statement}
-use Rattle.vectors.proofs.digits.Tie as tie
+use Rattle.words.specs.Words.{digit, number}
+use Rattle.words.proofs.Numbers.{at-end, other, one-more, alike, last-digits, room}
+use Rattle.words.proofs.digits.Statement.{statement}
+use Rattle.words.proofs.digits.Tie as tie
 
 abbrev Inv-loop : tie.InvT-loop
 Inv-loop text at base top n₀ i₀ n i = (n < top * base) × (number base 0 (drop at text) % (top * base) ≡ number base n (drop i text) % (top * base))

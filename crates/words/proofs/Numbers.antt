@@ -10,7 +10,7 @@ use lib.ListN.{length, drop, getD, drop-of-length-le}
 use lib.Seq.{drop-cons}
 use lib.Dec.{ltb}
 use borrow.Author.Tests.{lt-ltb, le-ltb}
-use Rattle.vectors.specs.Words.{digit, number}
+use Rattle.words.specs.Words.{digit, number}
 
 module _ (base n : ℕ) (s : List ℕ) (i : ℕ) where
   pub at-end : length s ≤ i → number base n (drop i s) ≡ n

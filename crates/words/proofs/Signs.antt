@@ -8,7 +8,7 @@ use lib.ListN.{length, drop, getD, drop-of-length-le}
 use lib.Seq.{drop-cons}
 use lib.IntN.{pos, negsuc}
 use borrow.Author.Tests.{eq-eqb, ne-eqb}
-use Rattle.vectors.specs.Words.{unsignedOf, below, signedOf}
+use Rattle.words.specs.Words.{unsignedOf, below, signedOf}
 
 module _ (s : List ℕ) (at : ℕ) where
   pub past : length s ≤ at → signedOf (drop at s) ≡ pos 0

@@ -6,10 +6,10 @@ use native.Mathlib.Omega.{arith}
 use borrow.Author.Needs.{needs}
 use lib.ListN.{length, drop, getD, length-set, length-drop}
 use lib.Seq.{paste, paste-zero}
-use Rattle.vectors.specs.Words.{hexByte, hexBytes}
-use Rattle.vectors.proofs.Hex.{long-enough, no-more, one-more, next, one-put, all, done}
-use Rattle.vectors.proofs.hex_bytes.Statement.{statement}
-use Rattle.vectors.proofs.hex_bytes.Tie as tie
+use Rattle.words.specs.Words.{hexByte, hexBytes}
+use Rattle.words.proofs.Hex.{long-enough, no-more, one-more, next, one-put, all, done}
+use Rattle.words.proofs.hex_bytes.Statement.{statement}
+use Rattle.words.proofs.hex_bytes.Tie as tie
 
 abbrev Inv-loop : tie.InvT-loop
 Inv-loop text at out₀ i₀ n₀ out i n =

@@ -2,8 +2,8 @@ use mathlib.Core.Path.{_≡_, refl}
 use native.Mathlib.Omega.{arith}
 use borrow.Author.Needs.{needs}
 use borrow.Author.Tests.{le-leb, lt-leb}
-use Rattle.vectors.proofs.hex_digit.Statement.{statement}
-use Rattle.vectors.proofs.hex_digit.Tie as tie
+use Rattle.words.proofs.hex_digit.Statement.{statement}
+use Rattle.words.proofs.hex_digit.Tie as tie
 
 returns : tie.Need-returns
 returns c = let b = c .before .args .b in rw (lt-leb 48 b (c .if1 .taken), lt-leb 97 b (omega arith)) (refl, omega arith)
