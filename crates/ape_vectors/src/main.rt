@@ -1,4 +1,4 @@
-// Replays the published Rust's recorded answers for crates ape and ape_write.
+// Replays the published Rust's recorded answers for crates ape, ape_write and ape_replace.
 use ape::FooterFound;
 use ape::TagRead;
 use ape_write::Written;
@@ -70,7 +70,7 @@ fn replace(text: &[u8], at: usize) -> bool {
     let m = words::hex_bytes(text, area_at, &mut area);
     let count = words::unsigned(text, count_at) as usize;
     let mut out = [0u8; 8192];
-    let w = ape_write::replace_ape_tag(&file[0..n], &area[0..m], count, &mut out);
+    let w = ape_replace::replace_ape_tag(&file[0..n], &area[0..m], count, &mut out);
     wrote(text, words::next_word(text, area_at), w, &out)
 }
 

@@ -16,7 +16,7 @@ use Rattle.replies.specs.Refusal.{Plan, no, yes}
 use Rattle.replies.specs.declared.Refusal.the-variants.{TagTooLarge}
 use Rattle.items.specs.Items.{Item, areaBytes, parse, itemsIn}
 use Rattle.items.proofs.Area.{area-length}
-use Rattle.ape_write.specs.Answers.{roomPlan}
+use Rattle.ape_replace.specs.Answers.{roomPlan}
 use Rattle.calls.specs.Gate.{tagFits, itemsOf}
 use Rattle.edit.specs.Gate.{Passed, tagPlan}
 

@@ -20,7 +20,8 @@ use Rattle.ape.specs.Tag.{replaced}
 use Rattle.ape.specs.Answers.{hasRoom}
 use Rattle.ape_write.specs.declared.Written.{Written}
 use Rattle.ape_write.specs.declared.Written.the-variants.{Done, Refused}
-use Rattle.ape_write.specs.Answers.{roomPlan, writtenAnswer, writtenBytes}
+use Rattle.ape_write.specs.Answers.{writtenAnswer, writtenBytes}
+use Rattle.ape_replace.specs.Answers.{roomPlan}
 use Rattle.edit.specs.Gate.{Passed, tagPlan}
 use Rattle.edit.proofs.Rewriting.{fits-tag, short-items}
 use Rattle.calls.specs.Gate.{passesGate, itemsOf}

@@ -5,9 +5,9 @@ use borrow.Author.Needs.{needs}
 use borrow.Author.Tests.{le-leb, lt-leb, not-true, not-false}
 use Rattle.lists.specs.Choice.{isSome}
 use Rattle.items.specs.Items.{parse}
-use Rattle.ape_write.specs.Answers.{roomPlan, replacePlan}
-use Rattle.ape_write.proofs.replace_ape_tag.Statement.{statement}
-use Rattle.ape_write.proofs.replace_ape_tag.Tie as tie
+use Rattle.ape_replace.specs.Answers.{roomPlan, replacePlan}
+use Rattle.ape_replace.proofs.replace_ape_tag.Statement.{statement}
+use Rattle.ape_replace.proofs.replace_ape_tag.Tie as tie
 
 returns : tie.Need-returns
 unfolding replacePlan

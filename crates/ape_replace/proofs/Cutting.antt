@@ -20,8 +20,8 @@ use Rattle.items.specs.Items.{Item}
 use Rattle.ape.specs.Tag.{Split, findFooter, moved, split, serialize, fileOf, replaced}
 use Rattle.ape.specs.declared.Footer.{Footer}
 use Rattle.ape.specs.declared.Footer.the-variants.{At, Nowhere}
-use Rattle.ape_write.specs.declared.Cut.{Cut}
-use Rattle.ape_write.specs.Answers.{cut, audioCut, cutOf, Cuts}
+use Rattle.ape_replace.specs.declared.Cut.{Cut}
+use Rattle.ape_replace.specs.Answers.{cut, audioCut, cutOf, Cuts}
 
 -- an ID3v1 block has 128 bytes
 pub id3v1-long : (s : List ℕ) → endsWithId3v1 s ≡ true → 128 ≤ length s

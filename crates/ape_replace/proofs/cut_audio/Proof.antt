@@ -5,9 +5,9 @@ use native.Mathlib.Omega.{arith}
 use borrow.Author.Needs.{needs}
 use lib.ListN.{take}
 use Rattle.frame.specs.Tail.{endsWithId3v1}
-use Rattle.ape_write.proofs.Cutting.{audio-block, audio-plain, block-long}
-use Rattle.ape_write.proofs.cut_audio.Statement.{statement}
-use Rattle.ape_write.proofs.cut_audio.Tie as tie
+use Rattle.ape_replace.proofs.Cutting.{audio-block, audio-plain, block-long}
+use Rattle.ape_replace.proofs.cut_audio.Statement.{statement}
+use Rattle.ape_replace.proofs.cut_audio.Tie as tie
 
 -- the test, on the part of the file that the code lends
 tested : (c : tie.After-ends-with-id3v1) (t : Bool) → c .ends-with-id3v1 .result ≡ t → endsWithId3v1 (take (c .before .before .before .args .end) (c .before .before .before .args .file .now)) ≡ t

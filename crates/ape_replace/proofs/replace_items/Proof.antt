@@ -6,11 +6,11 @@ use borrow.Author.Tests.{le-leb, lt-leb}
 use lib.ListN.{length}
 use Rattle.items.specs.Items.{itemsIn}
 use Rattle.ape.specs.Tag.{replaced}
-use Rattle.ape_write.specs.Answers.{roomPlan}
+use Rattle.ape_replace.specs.Answers.{roomPlan}
 use Rattle.ape_write.proofs.Tags.{serialize-length, tag-most}
-use Rattle.ape_write.proofs.Cutting.{cuts-as, replaced-length}
-use Rattle.ape_write.proofs.replace_items.Statement.{statement}
-use Rattle.ape_write.proofs.replace_items.Tie as tie
+use Rattle.ape_replace.proofs.Cutting.{cuts-as, replaced-length}
+use Rattle.ape_replace.proofs.replace_items.Statement.{statement}
+use Rattle.ape_replace.proofs.replace_items.Tie as tie
 
 -- how long the file is
 long : (c : tie.After-file-length) → c .file-length .result ≡ length (replaced (c .before .before .before .before .before .before .args .file .now) (itemsIn (c .before .before .before .before .before .before .args .count) (c .before .before .before .before .before .before .args .area .now)))

@@ -9,9 +9,9 @@ use Rattle.frame.proofs.Tails.{start-within}
 use Rattle.ape.specs.Tag.{findFooter}
 use Rattle.ape.specs.declared.Footer.the-variants.{At}
 use Rattle.ape.proofs.Files.{footer-within}
-use Rattle.ape_write.proofs.Cutting.{cut-none, cut-unstarted, cut-rest, cut-last}
-use Rattle.ape_write.proofs.split_ape_tag.Statement.{statement}
-use Rattle.ape_write.proofs.split_ape_tag.Tie as tie
+use Rattle.ape_replace.proofs.Cutting.{cut-none, cut-unstarted, cut-rest, cut-last}
+use Rattle.ape_replace.proofs.split_ape_tag.Statement.{statement}
+use Rattle.ape_replace.proofs.split_ape_tag.Tie as tie
 
 -- the footer that was found, and the start
 here : (c : tie.After-known-told) → findFooter (c .before .before .before .before .before .args .file .now) ≡ At (c .before .found .given .0 .0)

@@ -10,9 +10,9 @@ use Rattle.lists.proofs.Places.{length-part}
 use Rattle.lists.proofs.Wrote.{Wrote, start, next, at-front, into-rest, from-start, length-rest}
 use Rattle.items.specs.Items.{Item, itemsIn}
 use Rattle.ape.specs.Tag.{serialize, replaced}
-use Rattle.ape_write.proofs.Cutting.{ended, replaced-is, replaced-length}
-use Rattle.ape_write.proofs.put_file.Statement.{statement}
-use Rattle.ape_write.proofs.put_file.Tie as tie
+use Rattle.ape_replace.proofs.Cutting.{ended, replaced-is, replaced-length}
+use Rattle.ape_replace.proofs.put_file.Statement.{statement}
+use Rattle.ape_replace.proofs.put_file.Tie as tie
 
 -- the items, and how long the file is
 abbrev items : tie.Start → List Item
