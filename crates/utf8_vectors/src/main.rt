@@ -1,6 +1,6 @@
-// Replays the recorded answers of Rust's standard library for crate utf8.
+// Replays the recorded answers of Rust's standard library for crates utf8 and lossy.
 ghost use Prim.Native.Nat.{_≤_};
-use utf8::Converted;
+use lossy::Converted;
 use vectors::Replay;
 
 // `utf8 TEXT BOOL`.
@@ -12,7 +12,7 @@ fn well_formed(text: &[u8], at: usize) -> bool {
 
 // Whether the conversion fits and has this length.
 fn fits(s: &[u8], out: &mut [u8]) -> bool {
-    let x = utf8::lossy_into(s, out);
+    let x = lossy::lossy_into(s, out);
     match x {
         Converted::Done(n) => n == out.len(),
         Converted::NoRoom => false,

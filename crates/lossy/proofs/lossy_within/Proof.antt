@@ -4,11 +4,11 @@ use Prim.Native.Nat.{_≤_, _<_, _+_, _-_}
 use mathlib.Core.Path.{_≡_, ap}
 use native.Mathlib.Omega.{arith}
 use lib.ListN.{length, drop}
-use Rattle.utf8.specs.declared.Converted.the-variants.{Done}
-use Rattle.utf8.specs.Utf8.{lossy}
-use Rattle.utf8.proofs.Stretch.{size-stretch, size-unmarked, size-marked}
-use Rattle.utf8.proofs.lossy_within.Statement.{statement}
-use Rattle.utf8.proofs.lossy_within.Tie as tie
+use Rattle.lossy.specs.declared.Converted.the-variants.{Done}
+use Rattle.lossy.specs.Lossy.{lossy}
+use Rattle.lossy.proofs.Runs.{size-stretch, size-unmarked, size-marked}
+use Rattle.lossy.proofs.lossy_within.Statement.{statement}
+use Rattle.lossy.proofs.lossy_within.Tie as tie
 
 abbrev Inv-loop : tie.InvT-loop
 Inv-loop table s room at₀ size₀ at size = (at ≤ length s) × (size ≤ room) × (length (lossy s) ≡ size + length (lossy (drop at s)))

@@ -5,8 +5,8 @@ use mathlib.Core.List.{List, []}
 use mathlib.Core.Option.{Option, none, some}
 use lib.Dec.{ltb}
 use lib.ListN.{length}
-use Rattle.utf8.specs.declared.Converted.{Converted}
-use Rattle.utf8.specs.declared.Converted.the-variants.{Done, NoRoom}
+use Rattle.lossy.specs.declared.Converted.{Converted}
+use Rattle.lossy.specs.declared.Converted.the-variants.{Done, NoRoom}
 
 -- w, where there is room for it
 abbrev pub within : ℕ → List ℕ → Option (List ℕ)

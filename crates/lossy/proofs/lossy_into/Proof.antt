@@ -4,12 +4,12 @@ use Prim.Native.Nat.{_≤_, _<_}
 use mathlib.Core.Path.{sym, _∙_}
 use native.Mathlib.Omega.{arith}
 use lib.ListN.{length}
-use Rattle.utf8.specs.Utf8.{lossy}
-use Rattle.utf8.proofs.Laws.{lossy-valid}
-use Rattle.utf8.proofs.Sizes.{length-lossy, least-lossy}
-use Rattle.utf8.proofs.Written.{converted, refused, had-room, had-none}
-use Rattle.utf8.proofs.lossy_into.Statement.{statement}
-use Rattle.utf8.proofs.lossy_into.Tie as tie
+use Rattle.lossy.specs.Lossy.{lossy}
+use Rattle.lossy.proofs.Laws.{lossy-valid}
+use Rattle.lossy.proofs.Sizes.{length-lossy, least-lossy}
+use Rattle.lossy.proofs.Written.{converted, refused, had-room, had-none}
+use Rattle.lossy.proofs.lossy_into.Statement.{statement}
+use Rattle.lossy.proofs.lossy_into.Tie as tie
 
 returns : tie.Need-returns
 returns c =

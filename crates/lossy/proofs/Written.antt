@@ -9,14 +9,14 @@ use mathlib.Core.List.{List, [], _++_, append-assoc}
 use lib.Dec.{ltb}
 use borrow.Author.Tests.{lt-ltb, le-ltb, ltb-true, ltb-false}
 use lib.ListN.{length, drop, length-append}
-use Rattle.utf8.specs.Utf8.{mark, lossy}
+use Rattle.lossy.specs.Lossy.{mark, lossy}
 use Rattle.lists.specs.Write.{over, splice, part}
-use Rattle.utf8.specs.declared.Converted.{Converted}
-use Rattle.utf8.specs.declared.Converted.the-variants.{Done, NoRoom}
-use Rattle.utf8.specs.Write.{answer, bytes, within}
+use Rattle.lossy.specs.declared.Converted.{Converted}
+use Rattle.lossy.specs.declared.Converted.the-variants.{Done, NoRoom}
+use Rattle.lossy.specs.Write.{answer, bytes, within}
 use Rattle.utf8.specs.Runs.{Ran}
 use Rattle.lists.proofs.Wrote.{Wrote, start, next}
-use Rattle.utf8.proofs.Stretch.{lossy-stretch, marked, unmarked}
+use Rattle.lossy.proofs.Runs.{lossy-stretch, marked, unmarked}
 
 -- done is written from o₀ to o, and what is left of s from `at` is to come
 pub record State (s out₀ : List ℕ) (o₀ : ℕ) (out : List ℕ) (at o : ℕ) : Type 0 where

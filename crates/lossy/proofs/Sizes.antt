@@ -5,12 +5,13 @@ use mathlib.Core.Path.{_≡_, refl}
 use mathlib.Core.List.{List, [], _∷_}
 use lib.ListN.{length, length-append, length-take}
 use borrow.Author.Tests.{eqb-false}
 use Rattle.utf8.specs.declared.Part.{Part}
 use Rattle.utf8.specs.declared.Part.the-variants.{Good, Bad, End}
-use Rattle.utf8.specs.Utf8.{numberOf, classAt, run, stepOf, size, after, textOf, lossyFrom, lossy}
+use Rattle.utf8.specs.Utf8.{numberOf, classAt, run, stepOf, size, after}
+use Rattle.lossy.specs.Lossy.{textOf, lossyFrom, lossy}
 use Rattle.utf8.proofs.Rule.{few-follow}
 use Rattle.utf8.proofs.Laws.{step-moves}
 use Rattle.utf8.proofs.Maximal.{run-bound, judged-bad}
 
 -- an ill-formed part has at most three bytes
 pub bad-short : (b : ℕ) (s : List ℕ) (n : ℕ) → stepOf (b ∷ s) ≡ Bad n → n ≤ 3

@@ -3,7 +3,8 @@ use Prim.Native.Nat.{ℕ, zero, suc}
 use mathlib.Core.Path.{_≡_, refl}
 use mathlib.Core.Bool.{true, false}
 use mathlib.Core.List.{List, [], _∷_, _++_}
-use Rattle.utf8.specs.Utf8.{numberOf, classAt, run, stepOf, lossyFrom, lossy, validFrom, valid, mark}
+use Rattle.utf8.specs.Utf8.{numberOf, classAt, run, stepOf, validFrom, valid}
+use Rattle.lossy.specs.Lossy.{lossyFrom, lossy, mark}
 
 -- n marks, then s
 abbrev marks : ℕ → List ℕ → List ℕ

@@ -4,10 +4,10 @@ use Prim.Native.Nat.{_-_}
 use mathlib.Core.Path.{_∙_}
 use native.Mathlib.Omega.{arith}
 use lib.ListN.{length}
 use Rattle.utf8.proofs.Stretch.{part-size}
-use Rattle.utf8.proofs.Written.{State, begin, fits-run, fits-mark, replaced, finished}
-use Rattle.utf8.proofs.lossy_put.Statement.{statement}
-use Rattle.utf8.proofs.lossy_put.Tie as tie
+use Rattle.lossy.proofs.Written.{State, begin, fits-run, fits-mark, replaced, finished}
+use Rattle.lossy.proofs.lossy_put.Statement.{statement}
+use Rattle.lossy.proofs.lossy_put.Tie as tie
 
 abbrev Inv-loop : tie.InvT-loop
 Inv-loop table out₀ at s from₀ o₀ t10 out from o = State s out₀ at out from o
