@@ -8,8 +8,8 @@ use mathlib.Core.List.{List, [], _∷_, _++_}
 use lib.ListN.{length, drop, length-drop}
 use Rattle.lists.specs.Choice.{found}
 use Rattle.lists.specs.Write.{part}
-use Rattle.utf8.specs.Utf8.{lossy}
-use Rattle.utf8.proofs.Sizes.{length-lossy}
+use Rattle.lossy.specs.Lossy.{lossy}
+use Rattle.lossy.proofs.Sizes.{length-lossy}
 use Rattle.items.specs.Items.{Item, Head, head, areaBytes, sizeOf}
 use Rattle.items.specs.Answers.{stepAny}
 use Rattle.items.specs.declared.Stepped.{Stepped}

@@ -8,9 +8,9 @@ use mathlib.Core.List.{List}
 use lib.ListN.{length}
 use lib.Dec.{leb, ltb}
 use borrow.Author.Tests.{ltb-true, ltb-false, lt-ltb, le-ltb, leb-true, leb-false, le-leb, lt-leb}
-use Rattle.utf8.specs.declared.Converted.{Converted}
-use Rattle.utf8.specs.declared.Converted.the-variants.{Done, NoRoom}
-use Rattle.utf8.specs.Write.{answer, within}
+use Rattle.lossy.specs.declared.Converted.{Converted}
+use Rattle.lossy.specs.declared.Converted.the-variants.{Done, NoRoom}
+use Rattle.lossy.specs.Write.{answer, within}
 use Rattle.items.specs.Items.{Item, areaBytes}
 use Rattle.ape.specs.Answers.{measuredAs}
 use Rattle.ape.specs.declared.Measured.{Measured}

@@ -10,7 +10,7 @@ use Rattle.lists.specs.Le.{u32le, readU32}
 use Rattle.frame.specs.Tail.{preamble, standsAt, endsWithId3v1, tagStart}
 use Rattle.frame.specs.declared.TagStart.{TagStart}
 use Rattle.frame.specs.declared.TagStart.the-variants.{At as StartAt, Nowhere as NoStart}
-use Rattle.utf8.specs.Utf8.{lossy}
+use Rattle.lossy.specs.Lossy.{lossy}
 use Rattle.items.specs.Items.{Item, Head, areaBytes, head}
 use Rattle.ape.specs.declared.Footer.{Footer}
 use Rattle.ape.specs.declared.Footer.the-variants.{At, Nowhere}

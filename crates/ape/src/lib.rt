@@ -7,14 +7,14 @@ ghost use lib.ListN.{length};
 ghost use Rattle.lists.specs.Choice.{isSome};
 ghost use Rattle.lists.specs.Write.{over, splice};
 ghost use Rattle.utf8.specs.Utf8.{Classes};
-ghost use Rattle.utf8.specs.Write.{answer, within};
+ghost use Rattle.lossy.specs.Write.{answer, within};
 ghost use Rattle.items.specs.Items.{areaBytes, itemBytes, parse, itemsIn};
 ghost use Rattle.ape.specs.Tag.{findFooter, blockBytes, tagBytes, converted, readItems};
 ghost use Rattle.ape.specs.Answers.{footerPlan, footerAnswer, measuredAs, itemsPlan, readPlan, readAnswer, readBytes};
 use frame::TagStart;
 use items::Stepped;
+use lossy::Converted;
 use replies::Refusal;
-use utf8::Converted;
 
 const APE_VERSION: u32 = 2000;
 
@@ -96,9 +96,9 @@ fn put_item(table: &[u8; 256], out: &mut [u8], at: usize, key: &[u8], value: &[u
     ensures { λ r. ⌜ (let new = itemBytes (converted (now (key .entry)) (now (value .entry))) in
         (r ≡ at + length new) × (now (out .exit) ≡ splice (now (out .entry)) at new)) ⌝ }
 {
-    let k = utf8::lossy_put(table, out, at + 8, key);
+    let k = lossy::lossy_put(table, out, at + 8, key);
     let z = lists::put(out, k, b"\0");
-    let v = utf8::lossy_put(table, out, z, value);
+    let v = lossy::lossy_put(table, out, z, value);
     lists::put_u32_le(out, at + 4, 0);
     lists::put_u32_le(out, at, (v - z) as u32);
     v
@@ -109,11 +109,11 @@ fn converted_size(table: &[u8; 256], key: &[u8], value: &[u8], room: usize) -> C
     requires { ⌜ Classes (now table) ⌝ }
     ensures { λ r. ⌜ r ≡ answer (within room (itemBytes (converted (now (key .entry)) (now (value .entry))))) ⌝ }
 {
-    let k = utf8::lossy_within(table, key, room);
+    let k = lossy::lossy_within(table, key, room);
     let Converted::Done(a) = k else {
         return Converted::NoRoom;
     };
-    let v = utf8::lossy_within(table, value, room - a);
+    let v = lossy::lossy_within(table, value, room - a);
     let Converted::Done(b) = v else {
         return Converted::NoRoom;
     };

@@ -1,19 +1,15 @@
--- What the calls answer and write that make a tag, or a file with another tag.
-use Prim.Native.Nat.{ℕ, _+_, _-_, _≤_}
+-- What the call answers and writes that makes a tag.
+use Prim.Native.Nat.{ℕ, _+_}
 use mathlib.Core.Bool.{cond}
-use mathlib.Core.Path.{_≡_}
 use mathlib.Core.List.{List, [], _∷_, _++_}
-use lib.ListN.{length, take}
-use lib.Dec.{ltb, eqb}
+use lib.ListN.{length}
+use lib.Dec.{eqb}
 use Rattle.lists.specs.Choice.{isSome}
-use Rattle.lists.specs.Write.{part}
 use Rattle.replies.specs.Refusal.{Test, need, refusalOf, Plan, no, yes, planned}
 use Rattle.replies.specs.declared.Refusal.the-variants.{MalformedArea}
-use Rattle.frame.specs.Tail.{endsWithId3v1, tagStart}
-use Rattle.items.specs.Items.{Item, parse, itemsIn}
-use Rattle.ape.specs.Tag.{Split, blockBytes, headerFlags, footerFlags, findFooter, footed, started, serialize, replaced}
-use Rattle.ape.specs.Answers.{lentFits, roomFor}
-use Rattle.ape_write.specs.declared.Cut.{Cut}
+use Rattle.items.specs.Items.{parse, itemsIn}
+use Rattle.ape.specs.Tag.{blockBytes, headerFlags, footerFlags, serialize}
+use Rattle.ape.specs.Answers.{roomFor}
 use Rattle.ape_write.specs.declared.Written.{Written}
 use Rattle.ape_write.specs.declared.Written.the-variants.{Done, Refused}
 
@@ -46,42 +42,3 @@ unfoldable pub serializePlan : List ℕ → ℕ → ℕ → Plan (List ℕ)
 serializePlan area count room =
     let w = serialize (itemsIn count area) in
     planned (refusalOf (areaFits count area ∷ roomFor room w ∷ [])) w
-
--- the file with its tag replaced by these items, if there is room
-unfoldable pub roomPlan : List ℕ → List Item → ℕ → Plan (List ℕ)
-roomPlan file ts room = planned (refusalOf (roomFor room (replaced file ts) ∷ [])) (replaced file ts)
-
--- replace_ape_tag
-unfoldable pub replacePlan : List ℕ → List ℕ → ℕ → ℕ → Plan (List ℕ)
-replacePlan file area count room =
-    let w = replaced file (itemsIn count area) in
-    planned (refusalOf (lentFits file ∷ areaFits count area ∷ roomFor room w ∷ [])) w
-
--- ---- where a file is cut: up to `front` is what precedes its tag, and what follows it stands between `from` and `to`
-
--- a cut, written in one line
-abbrev pub cut : ℕ → ℕ → ℕ → Cut
-cut front from to = record { front = front; from = from; to = to }
-
--- the audio that ends here, with nothing behind it: an ID3v1 block at its end is what follows
-unfoldable pub audioCut : List ℕ → ℕ → Cut
-audioCut s end = cond (endsWithId3v1 (take end s)) (cut (end - 128) (end - 128) end) (cut end end end)
-
--- split_ape_tag: with a footer and a start, the audio ends at the start, and what stands behind the footer follows; else all is audio
-unfoldable pub cutOf : List ℕ → Cut
-cutOf s =
-    footed (findFooter s) (audioCut s (length s)) (λ f.
-    started (tagStart s f) (audioCut s (length s)) (λ a.
-    cond (ltb (f + 32) (length s)) (cut a (f + 32) (length s)) (audioCut s a)))
-
--- the split as a call: refusal 1
-abbrev pub splitPlan : List ℕ → Plan Cut
-splitPlan file = planned (refusalOf (lentFits file ∷ [])) (cutOf file)
-
--- a cut leaves these two parts
-pub record Cuts (x : Split) (s : List ℕ) (front from to : ℕ) : Type 0 where
-  pub front-is : take front s ≡ x .front
-  pub back-is : part from to s ≡ x .back
-  pub front-within : front ≤ length s
-  pub order : from ≤ to
-  pub within : to ≤ length s

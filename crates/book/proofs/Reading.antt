@@ -15,7 +15,7 @@ use Rattle.frame.specs.Tail.{preamble, id3v1Mark, standsAt, endsWithId3v1, tagS
 use Rattle.frame.specs.declared.TagStart.the-variants.{At as StartAt}
 use Rattle.frame.proofs.Tails.{stands-in, stands-before, start-there, start-headed}
 use Rattle.utf8.specs.Utf8.{valid}
-use Rattle.utf8.proofs.Laws.{lossy-valid}
+use Rattle.lossy.proofs.Laws.{lossy-valid}
 use Rattle.items.specs.Items.{Item, itemBytes, areaBytes}
 use Rattle.items.proofs.Area.{AllSane, parse-area, head-item, length-item, plain}
 use Rattle.ape.specs.Tag.{blockBytes, headerFlags, footerFlags, tagBytes, serialize, findFooter, versionAt, sizeAt, countAt, areaAt, readItems, readTag, moved, split, fileOf, replaced}

@@ -1,11 +1,11 @@
--- What the faces of crates ape and ape_write answer and leave in their lent numbers. A refusal leaves them.
+-- What the faces of crates ape, ape_write and ape_replace answer and leave in their lent numbers. A refusal leaves them.
 use Prim.Native.Nat.{ℕ}
 use Rattle.replies.specs.Refusal.{numberOf, Plan, no, yes}
 use Rattle.ape.specs.declared.FooterFound.{FooterFound}
 use Rattle.ape.specs.declared.FooterFound.the-variants.{At, Nowhere, Refused as NotSearched}
 use Rattle.ape.specs.declared.TagRead.{TagRead}
 use Rattle.ape.specs.declared.TagRead.the-variants.{NoTag, Items, Refused as NotRead}
-use Rattle.ape_write.specs.declared.Cut.{Cut}
+use Rattle.ape_replace.specs.declared.Cut.{Cut}
 use Rattle.ape_write.specs.declared.Written.{Written}
 use Rattle.ape_write.specs.declared.Written.the-variants.{Done, Refused}
 

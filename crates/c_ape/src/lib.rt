@@ -1,9 +1,10 @@
-// The faces of crates ape and ape_write.
+// The faces of crates ape, ape_write and ape_replace.
 ghost use mathlib.Core.Path.{_≡_};
 ghost use lib.ListN.{length};
 ghost use Rattle.lists.specs.Write.{over};
 ghost use Rattle.ape.specs.Answers.{footerPlan, footerAnswer, readPlan, readAnswer, readBytes};
-ghost use Rattle.ape_write.specs.Answers.{serializePlan, splitPlan, replacePlan, writtenAnswer, writtenBytes};
+ghost use Rattle.ape_write.specs.Answers.{serializePlan, writtenAnswer, writtenBytes};
+ghost use Rattle.ape_replace.specs.Answers.{splitPlan, replacePlan};
 ghost use Rattle.c_ape.specs.ApeFace.{footerFace, readFace, writtenFace, splitFace};
 use ape::FooterFound;
 use ape::TagRead;
@@ -112,7 +113,7 @@ pub extern "C" fn zib_split_ape_tag(
     if replies::FILE_LIMIT < file.len() {
         return replies::number(Refusal::FileTooLong);
     }
-    let cut = ape_write::split_ape_tag(file);
+    let cut = ape_replace::split_ape_tag(file);
     let a = cut.front;
     let b = cut.from;
     let c = cut.to;
@@ -136,5 +137,8 @@ pub extern "C" fn zib_replace_ape_tag(
         let face = writtenFace (writtenAnswer plan) (now (written .entry)) in
         (r ≡ face .reply) × (now (written .exit) ≡ face .written) × (now (out .exit) ≡ over (writtenBytes plan) (now (out .entry)))) ⌝ }
 {
-    put_written(ape_write::replace_ape_tag(file, area, count, out), written)
+    put_written(
+        ape_replace::replace_ape_tag(file, area, count, out),
+        written,
+    )
 }

@@ -1,7 +1,7 @@
--- What the faces of crate utf8 answer and leave in their lent numbers.
+-- What the faces of crates utf8 and lossy answer and leave in their lent numbers.
 use Prim.Native.Nat.{ℕ}
-use Rattle.utf8.specs.declared.Converted.{Converted}
-use Rattle.utf8.specs.declared.Converted.the-variants.{Done, NoRoom}
+use Rattle.lossy.specs.declared.Converted.{Converted}
+use Rattle.lossy.specs.declared.Converted.the-variants.{Done, NoRoom}
 
 -- the reply, and what the lent number holds afterwards
 pub record Conversion : Type 0 where

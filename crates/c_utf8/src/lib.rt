@@ -1,11 +1,12 @@
-// The faces of crate utf8.
+// The faces of crates utf8 and lossy.
 ghost use mathlib.Core.Path.{_≡_};
 ghost use lib.ListN.{length};
 ghost use Rattle.lists.specs.Write.{over};
-ghost use Rattle.utf8.specs.Utf8.{valid, lossy};
-ghost use Rattle.utf8.specs.Write.{within, answer, bytes};
+ghost use Rattle.utf8.specs.Utf8.{valid};
+ghost use Rattle.lossy.specs.Lossy.{lossy};
+ghost use Rattle.lossy.specs.Write.{within, answer, bytes};
 ghost use Rattle.c_utf8.specs.Utf8Face.{conversion};
-use utf8::Converted;
+use lossy::Converted;
 
 // Whether the text is well-formed UTF-8.
 #[no_mangle]
@@ -21,7 +22,7 @@ pub extern "C" fn zib_lossy_size(text: &[u8], room: usize, size: &mut usize) -> 
     ensures { λ r. ⌜ (let plan = within room (lossy (now (text .entry))) in
         (r ≡ conversion (answer plan) (now (size .entry)) .reply) × (now (size .exit) ≡ conversion (answer plan) (now (size .entry)) .written)) ⌝ }
 {
-    let x = utf8::lossy_size(text, room);
+    let x = lossy::lossy_size(text, room);
     let Converted::Done(n) = x else {
         return 5;
     };
@@ -36,7 +37,7 @@ pub extern "C" fn zib_lossy_into(text: &[u8], out: &mut [u8], written: &mut usiz
         (r ≡ conversion (answer plan) (now (written .entry)) .reply)
         × (now (written .exit) ≡ conversion (answer plan) (now (written .entry)) .written) × (now (out .exit) ≡ over (bytes plan) (now (out .entry)))) ⌝ }
 {
-    let x = utf8::lossy_into(text, out);
+    let x = lossy::lossy_into(text, out);
     match x {
         Converted::Done(n) => {
             *written = n;

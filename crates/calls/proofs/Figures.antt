@@ -12,7 +12,8 @@ use Rattle.values.specs.Stored.{kindOf, rangeWrapsOut, shiftStored}
 use Rattle.values.specs.Undo.{formatUndo, parseUndo, undoWraps, accumulated}
 use Rattle.frame.specs.Gain.{adjust}
 use Rattle.frame.specs.Tail.{standsAt, startOf, tagStart}
-use Rattle.utf8.specs.Utf8.{numberOf, classAt, run, stepOf, lossyFrom, lossy, validFrom, valid}
+use Rattle.utf8.specs.Utf8.{numberOf, classAt, run, stepOf, validFrom, valid}
+use Rattle.lossy.specs.Lossy.{lossyFrom, lossy}
 use Rattle.items.specs.Items.{itemBytes, areaBytes, headAt, head, plainHead, parse, getItem, setItem, without}
 use Rattle.ape.specs.Tag.{blockBytes, tagBytes, serialize, findFooter, areaAt, moved, split, fileOf, replaced}
 use Rattle.calls.specs.Gate.{fit, allValid, gateItems, passesGate, itemsOf, tagFits}

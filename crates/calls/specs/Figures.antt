@@ -25,7 +25,7 @@ use Rattle.frame.specs.declared.GainMode.{GainMode}
 use Rattle.frame.specs.declared.GainMode.the-variants.{Saturating, Wrapping}
 use Rattle.frame.specs.Tail.{preamble}
 use Rattle.frame.specs.Gain.{adjust}
-use Rattle.utf8.specs.Utf8.{mark, lossy}
+use Rattle.lossy.specs.Lossy.{mark, lossy}
 use Rattle.values.specs.Undo.{formatUndo, parseUndo}
 use Rattle.values.specs.Stored.{shiftStored, rangeWrapsOut}
 use Rattle.decibels.specs.Gain.{shiftGain}

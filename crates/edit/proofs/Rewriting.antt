@@ -9,7 +9,7 @@ use borrow.Author.Tests.{le-leb, lt-leb}
 use Rattle.replies.specs.Refusal.{no}
 use Rattle.replies.specs.declared.Refusal.the-variants.{TagTooLarge}
 use Rattle.items.specs.Items.{Item, areaBytes}
-use Rattle.ape_write.specs.Answers.{roomPlan}
+use Rattle.ape_replace.specs.Answers.{roomPlan}
 use Rattle.calls.specs.Gate.{tagFits}
 use Rattle.edit.specs.Finish.{tagPlan}
 

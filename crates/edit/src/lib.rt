@@ -46,7 +46,7 @@ pub fn finish(file: &[u8], area: &[u8], count: usize, out: &mut [u8]) -> Written
     if replies::AREA_LIMIT < area.len() {
         return Written::Refused(Refusal::TagTooLarge);
     }
-    ape_write::replace_items(file, area, count, out)
+    ape_replace::replace_items(file, area, count, out)
 }
 
 // Sets an item of a file that is fit for editing. The items are made in `new`.

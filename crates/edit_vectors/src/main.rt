@@ -7,11 +7,11 @@ use gate::Editable;
 use level::LevelAnswer;
 use replies::Refusal;
 use vectors::Replay;
-use vectors::is_hex;
+use words::is_hex;
 
 // Whether an answer is that of the two words from this place: `0` and the file, or the number of a refusal and `-`.
 fn answered(text: &[u8], at: usize, w: Written, out: &[u8]) -> bool {
-    let reply = vectors::unsigned(text, at);
+    let reply = words::unsigned(text, at);
     match w {
         Written::Done(n) => {
             if reply != 0 {
@@ -20,7 +20,7 @@ fn answered(text: &[u8], at: usize, w: Written, out: &[u8]) -> bool {
             if out.len() < n {
                 return false;
             }
-            is_hex(text, vectors::next_word(text, at), &out[0..n])
+            is_hex(text, words::next_word(text, at), &out[0..n])
         }
         Written::Refused(r) => reply == replies::number(r) as u64,
     }
@@ -29,28 +29,28 @@ fn answered(text: &[u8], at: usize, w: Written, out: &[u8]) -> bool {
 // `set FILE KEY VALUE REPLY FILE`.
 fn set(text: &[u8], at: usize) -> bool {
     let mut file = [0u8; 2048];
-    let n = vectors::hex_bytes(text, at, &mut file);
-    let key_at = vectors::next_word(text, at);
+    let n = words::hex_bytes(text, at, &mut file);
+    let key_at = words::next_word(text, at);
     let mut key = [0u8; 256];
-    let k = vectors::hex_bytes(text, key_at, &mut key);
-    let value_at = vectors::next_word(text, key_at);
+    let k = words::hex_bytes(text, key_at, &mut key);
+    let value_at = words::next_word(text, key_at);
     let mut value = [0u8; 256];
-    let v = vectors::hex_bytes(text, value_at, &mut value);
+    let v = words::hex_bytes(text, value_at, &mut value);
     let mut out = [0u8; 4096];
     let w = edit::set_ape_item(&file[0..n], &key[0..k], &value[0..v], &mut out);
-    answered(text, vectors::next_word(text, value_at), w, &out)
+    answered(text, words::next_word(text, value_at), w, &out)
 }
 
 // `remove FILE KEY REPLY FILE`.
 fn remove(text: &[u8], at: usize) -> bool {
     let mut file = [0u8; 2048];
-    let n = vectors::hex_bytes(text, at, &mut file);
-    let key_at = vectors::next_word(text, at);
+    let n = words::hex_bytes(text, at, &mut file);
+    let key_at = words::next_word(text, at);
     let mut key = [0u8; 256];
-    let k = vectors::hex_bytes(text, key_at, &mut key);
+    let k = words::hex_bytes(text, key_at, &mut key);
     let mut out = [0u8; 4096];
     let w = edit::remove_ape_item(&file[0..n], &key[0..k], &mut out);
-    answered(text, vectors::next_word(text, key_at), w, &out)
+    answered(text, words::next_word(text, key_at), w, &out)
 }
 
 // Whether an answer is that of the four words from this place: the reply, the file, and the gains afterwards, also of a refused call.
@@ -69,11 +69,11 @@ fn left_behind(
     if !answered(text, at, w, out) {
         return false;
     }
-    let left_after = vectors::next_word(text, vectors::next_word(text, at));
+    let left_after = words::next_word(text, words::next_word(text, at));
     if !is_hex(text, left_after, left) {
         return false;
     }
-    is_hex(text, vectors::next_word(text, left_after), right)
+    is_hex(text, words::next_word(text, left_after), right)
 }
 
 // Whether undo answers the four words from this place.
@@ -86,16 +86,16 @@ fn undone(text: &[u8], at: usize, file: &[u8], left: &mut [u8], right: &mut [u8]
 // `undo FILE LEFT RIGHT REPLY FILE LEFT RIGHT`.
 fn undo(text: &[u8], at: usize) -> bool {
     let mut file = [0u8; 2048];
-    let n = vectors::hex_bytes(text, at, &mut file);
-    let left_at = vectors::next_word(text, at);
+    let n = words::hex_bytes(text, at, &mut file);
+    let left_at = words::next_word(text, at);
     let mut left = [0u8; 64];
-    let l = vectors::hex_bytes(text, left_at, &mut left);
-    let right_at = vectors::next_word(text, left_at);
+    let l = words::hex_bytes(text, left_at, &mut left);
+    let right_at = words::next_word(text, left_at);
     let mut right = [0u8; 64];
-    let r = vectors::hex_bytes(text, right_at, &mut right);
+    let r = words::hex_bytes(text, right_at, &mut right);
     undone(
         text,
-        vectors::next_word(text, right_at),
+        words::next_word(text, right_at),
         &file[0..n],
         &mut left[0..l],
         &mut right[0..r],
@@ -122,38 +122,38 @@ fn levelled(
         LevelAnswer::Done { length: _, peaks } => peaks,
         LevelAnswer::Refused(_) => 0,
     };
-    let left_after = vectors::next_word(text, vectors::next_word(text, at));
-    let peaks_at = vectors::next_word(text, vectors::next_word(text, left_after));
-    vectors::unsigned(text, peaks_at) == n as u64
+    let left_after = words::next_word(text, words::next_word(text, at));
+    let peaks_at = words::next_word(text, words::next_word(text, left_after));
+    words::unsigned(text, peaks_at) == n as u64
 }
 
 // `level FILE LEFT RIGHT STEPS STEPS FLAG ROOM REPLY FILE LEFT RIGHT PEAKS`.
 fn level(text: &[u8], at: usize) -> bool {
     let mut file = [0u8; 4096];
-    let n = vectors::hex_bytes(text, at, &mut file);
-    let left_at = vectors::next_word(text, at);
+    let n = words::hex_bytes(text, at, &mut file);
+    let left_at = words::next_word(text, at);
     let mut left = [0u8; 64];
-    let l = vectors::hex_bytes(text, left_at, &mut left);
-    let right_at = vectors::next_word(text, left_at);
+    let l = words::hex_bytes(text, left_at, &mut left);
+    let right_at = words::next_word(text, left_at);
     let mut right = [0u8; 64];
-    let r = vectors::hex_bytes(text, right_at, &mut right);
-    let steps_at = vectors::next_word(text, right_at);
-    let right_steps_at = vectors::next_word(text, steps_at);
-    let flag_at = vectors::next_word(text, right_steps_at);
-    let room_at = vectors::next_word(text, flag_at);
-    let room = vectors::unsigned(text, room_at) as usize;
+    let r = words::hex_bytes(text, right_at, &mut right);
+    let steps_at = words::next_word(text, right_at);
+    let right_steps_at = words::next_word(text, steps_at);
+    let flag_at = words::next_word(text, right_steps_at);
+    let room_at = words::next_word(text, flag_at);
+    let room = words::unsigned(text, room_at) as usize;
     let mut out = [0u8; 4096];
     if out.len() < room {
         return false;
     }
     levelled(
         text,
-        vectors::next_word(text, room_at),
+        words::next_word(text, room_at),
         &file[0..n],
         &mut left[0..l],
         &mut right[0..r],
-        GainSteps(vectors::signed(text, steps_at)),
-        GainSteps(vectors::signed(text, right_steps_at)),
+        GainSteps(words::signed(text, steps_at)),
+        GainSteps(words::signed(text, right_steps_at)),
         GainMode::from_wrap(lists::starts_with(text, flag_at, b"W")),
         &mut out[0..room],
     )
@@ -184,29 +184,29 @@ fn shifted(
         } => items,
         Edited::Refused(_) => 0,
     };
-    let count_at = vectors::next_word(text, vectors::next_word(text, at));
-    vectors::unsigned(text, count_at) == n as u64
+    let count_at = words::next_word(text, words::next_word(text, at));
+    words::unsigned(text, count_at) == n as u64
 }
 
 // `shift AREA COUNT STEPS FLAG ROOM REPLY AREA COUNT`.
 fn shift(text: &[u8], at: usize) -> bool {
     let mut area = [0u8; 2048];
-    let n = vectors::hex_bytes(text, at, &mut area);
-    let count_at = vectors::next_word(text, at);
-    let steps_at = vectors::next_word(text, count_at);
-    let flag_at = vectors::next_word(text, steps_at);
-    let room_at = vectors::next_word(text, flag_at);
-    let room = vectors::unsigned(text, room_at) as usize;
+    let n = words::hex_bytes(text, at, &mut area);
+    let count_at = words::next_word(text, at);
+    let steps_at = words::next_word(text, count_at);
+    let flag_at = words::next_word(text, steps_at);
+    let room_at = words::next_word(text, flag_at);
+    let room = words::unsigned(text, room_at) as usize;
     let mut out = [0u8; 4096];
     if out.len() < room {
         return false;
     }
     shifted(
         text,
-        vectors::next_word(text, room_at),
+        words::next_word(text, room_at),
         &area[0..n],
-        vectors::unsigned(text, count_at) as usize,
-        GainSteps(vectors::signed(text, steps_at)),
+        words::unsigned(text, count_at) as usize,
+        GainSteps(words::signed(text, steps_at)),
         GainMode::from_wrap(lists::starts_with(text, flag_at, b"W")),
         &mut out[0..room],
     )
@@ -215,9 +215,9 @@ fn shift(text: &[u8], at: usize) -> bool {
 // `gate FILE REPLY START END COUNT`, the last three 0 where it is refused.
 fn gate(text: &[u8], at: usize) -> bool {
     let mut file = [0u8; 4096];
-    let n = vectors::hex_bytes(text, at, &mut file);
-    let reply_at = vectors::next_word(text, at);
-    let reply = vectors::unsigned(text, reply_at);
+    let n = words::hex_bytes(text, at, &mut file);
+    let reply_at = words::next_word(text, at);
+    let reply = words::unsigned(text, reply_at);
     let g = gate::gate(&file[0..n]);
     let Editable::Items { start, end, count } = g else {
         return reply == replies::number(Refusal::NotEditable) as u64;
@@ -225,20 +225,20 @@ fn gate(text: &[u8], at: usize) -> bool {
     if reply != 0 {
         return false;
     }
-    let start_at = vectors::next_word(text, reply_at);
-    if vectors::unsigned(text, start_at) != start as u64 {
+    let start_at = words::next_word(text, reply_at);
+    if words::unsigned(text, start_at) != start as u64 {
         return false;
     }
-    let end_at = vectors::next_word(text, start_at);
-    if vectors::unsigned(text, end_at) != end as u64 {
+    let end_at = words::next_word(text, start_at);
+    if words::unsigned(text, end_at) != end as u64 {
         return false;
     }
-    vectors::unsigned(text, vectors::next_word(text, end_at)) == count as u64
+    words::unsigned(text, words::next_word(text, end_at)) == count as u64
 }
 
 // Whether the answer in the line at this place is the library's.
 fn agrees(text: &[u8], at: usize) -> bool {
-    let from = vectors::next_word(text, at);
+    let from = words::next_word(text, at);
     if lists::starts_with(text, at, b"set ") {
         return set(text, from);
     }

@@ -5,18 +5,18 @@ use area_edit::Edited;
 use area_values::UndoGain;
 use keys::Which;
 use vectors::Replay;
-use vectors::is_hex;
+use words::is_hex;
 
 // Whether the word at this place is this number.
 fn is_number(text: &[u8], at: usize, n: u64) -> bool {
-    n == vectors::unsigned(text, at)
+    n == words::unsigned(text, at)
 }
 
 // `key KEY 0|1`: whether the rule lets it pass.
 fn key(text: &[u8], at: usize) -> bool {
     let mut name = [0u8; 512];
-    let n = vectors::hex_bytes(text, at, &mut name);
-    let good = vectors::unsigned(text, vectors::next_word(text, at)) == 1;
+    let n = words::hex_bytes(text, at, &mut name);
+    let good = words::unsigned(text, words::next_word(text, at)) == 1;
     if keys::is_key(&name[0..n]) {
         return good;
     }
@@ -26,8 +26,8 @@ fn key(text: &[u8], at: usize) -> bool {
 // `which KEY PLACE`: which of the eight keys, 8 for none.
 fn which(text: &[u8], at: usize) -> bool {
     let mut name = [0u8; 512];
-    let n = vectors::hex_bytes(text, at, &mut name);
-    let place = vectors::next_word(text, at);
+    let n = words::hex_bytes(text, at, &mut name);
+    let place = words::next_word(text, at);
     let w = keys::which_key(&name[0..n]);
     match w {
         Which::Key(i) => is_number(text, place, i as u64),
@@ -37,15 +37,15 @@ fn which(text: &[u8], at: usize) -> bool {
 
 // `get COUNT AREA KEY REPLY VALUE|none`.
 fn get(text: &[u8], at: usize) -> bool {
-    let area_at = vectors::next_word(text, at);
-    let key_at = vectors::next_word(text, area_at);
-    let reply_at = vectors::next_word(text, key_at);
-    let value_at = vectors::next_word(text, reply_at);
+    let area_at = words::next_word(text, at);
+    let key_at = words::next_word(text, area_at);
+    let reply_at = words::next_word(text, key_at);
+    let value_at = words::next_word(text, reply_at);
     let mut area = [0u8; 4096];
-    let m = vectors::hex_bytes(text, area_at, &mut area);
+    let m = words::hex_bytes(text, area_at, &mut area);
     let mut name = [0u8; 512];
-    let n = vectors::hex_bytes(text, key_at, &mut name);
-    let count = vectors::unsigned(text, at) as usize;
+    let n = words::hex_bytes(text, key_at, &mut name);
+    let count = words::unsigned(text, at) as usize;
     let mut status = 0;
     let mut there = false;
     let value = items::get(&area[0..m], count, &name[0..n], &mut status, &mut there);
@@ -66,12 +66,12 @@ fn get(text: &[u8], at: usize) -> bool {
 
 // `get_undo_gain COUNT AREA REPLY STEPS|none`.
 fn get_undo_gain(text: &[u8], at: usize) -> bool {
-    let area_at = vectors::next_word(text, at);
-    let reply_at = vectors::next_word(text, area_at);
-    let steps_at = vectors::next_word(text, reply_at);
+    let area_at = words::next_word(text, at);
+    let reply_at = words::next_word(text, area_at);
+    let steps_at = words::next_word(text, reply_at);
     let mut area = [0u8; 4096];
-    let m = vectors::hex_bytes(text, area_at, &mut area);
-    let count = vectors::unsigned(text, at) as usize;
+    let m = words::hex_bytes(text, area_at, &mut area);
+    let count = words::unsigned(text, at) as usize;
     let g = area_values::get_undo_gain(&area[0..m], count);
     match g {
         UndoGain::Steps(steps) => {
@@ -81,7 +81,7 @@ fn get_undo_gain(text: &[u8], at: usize) -> bool {
             if lists::starts_with(text, steps_at, b"none") {
                 return false;
             }
-            steps == vectors::signed(text, steps_at)
+            steps == words::signed(text, steps_at)
         }
         UndoGain::Nothing => {
             if !is_number(text, reply_at, 0) {
@@ -103,14 +103,14 @@ fn edited(text: &[u8], at: usize, e: Edited, out: &[u8]) -> bool {
             if !is_number(text, at, 0) {
                 return false;
             }
-            let count_at = vectors::next_word(text, at);
+            let count_at = words::next_word(text, at);
             if !is_number(text, count_at, n as u64) {
                 return false;
             }
             if out.len() < m {
                 return false;
             }
-            is_hex(text, vectors::next_word(text, count_at), &out[0..m])
+            is_hex(text, words::next_word(text, count_at), &out[0..m])
         }
         Edited::Refused(r) => is_number(text, at, replies::number(r) as u64),
     }
@@ -118,116 +118,116 @@ fn edited(text: &[u8], at: usize, e: Edited, out: &[u8]) -> bool {
 
 // `set COUNT AREA KEY VALUE ..`.
 fn set(text: &[u8], at: usize) -> bool {
-    let area_at = vectors::next_word(text, at);
-    let key_at = vectors::next_word(text, area_at);
-    let value_at = vectors::next_word(text, key_at);
+    let area_at = words::next_word(text, at);
+    let key_at = words::next_word(text, area_at);
+    let value_at = words::next_word(text, key_at);
     let mut area = [0u8; 4096];
-    let m = vectors::hex_bytes(text, area_at, &mut area);
+    let m = words::hex_bytes(text, area_at, &mut area);
     let mut name = [0u8; 512];
-    let n = vectors::hex_bytes(text, key_at, &mut name);
+    let n = words::hex_bytes(text, key_at, &mut name);
     let mut value = [0u8; 512];
-    let k = vectors::hex_bytes(text, value_at, &mut value);
-    let count = vectors::unsigned(text, at) as usize;
+    let k = words::hex_bytes(text, value_at, &mut value);
+    let count = words::unsigned(text, at) as usize;
     let mut out = [0u8; 8192];
     let e = area_edit::set(&area[0..m], count, &name[0..n], &value[0..k], &mut out);
-    edited(text, vectors::next_word(text, value_at), e, &out)
+    edited(text, words::next_word(text, value_at), e, &out)
 }
 
 // `remove COUNT AREA KEY ..`.
 fn remove(text: &[u8], at: usize) -> bool {
-    let area_at = vectors::next_word(text, at);
-    let key_at = vectors::next_word(text, area_at);
+    let area_at = words::next_word(text, at);
+    let key_at = words::next_word(text, area_at);
     let mut area = [0u8; 4096];
-    let m = vectors::hex_bytes(text, area_at, &mut area);
+    let m = words::hex_bytes(text, area_at, &mut area);
     let mut name = [0u8; 512];
-    let n = vectors::hex_bytes(text, key_at, &mut name);
-    let count = vectors::unsigned(text, at) as usize;
+    let n = words::hex_bytes(text, key_at, &mut name);
+    let count = words::unsigned(text, at) as usize;
     let mut out = [0u8; 8192];
     let e = area_drop::remove(&area[0..m], count, &name[0..n], &mut out);
-    edited(text, vectors::next_word(text, key_at), e, &out)
+    edited(text, words::next_word(text, key_at), e, &out)
 }
 
 // `remove_replaygain COUNT AREA ..`.
 fn remove_replaygain(text: &[u8], at: usize) -> bool {
-    let area_at = vectors::next_word(text, at);
+    let area_at = words::next_word(text, at);
     let mut area = [0u8; 4096];
-    let m = vectors::hex_bytes(text, area_at, &mut area);
-    let count = vectors::unsigned(text, at) as usize;
+    let m = words::hex_bytes(text, area_at, &mut area);
+    let count = words::unsigned(text, at) as usize;
     let mut out = [0u8; 8192];
     let e = area_drop::remove_replaygain(&area[0..m], count, &mut out);
-    edited(text, vectors::next_word(text, area_at), e, &out)
+    edited(text, words::next_word(text, area_at), e, &out)
 }
 
 // `drop_undone COUNT AREA ..`.
 fn drop_undone(text: &[u8], at: usize) -> bool {
-    let area_at = vectors::next_word(text, at);
+    let area_at = words::next_word(text, at);
     let mut area = [0u8; 4096];
-    let m = vectors::hex_bytes(text, area_at, &mut area);
-    let count = vectors::unsigned(text, at) as usize;
+    let m = words::hex_bytes(text, area_at, &mut area);
+    let count = words::unsigned(text, at) as usize;
     let mut out = [0u8; 8192];
     let e = area_drop::drop_undone(&area[0..m], count, &mut out);
-    edited(text, vectors::next_word(text, area_at), e, &out)
+    edited(text, words::next_word(text, area_at), e, &out)
 }
 
 // `take_mp3gain COUNT AREA ..`.
 fn take_mp3gain(text: &[u8], at: usize) -> bool {
-    let area_at = vectors::next_word(text, at);
+    let area_at = words::next_word(text, at);
     let mut area = [0u8; 4096];
-    let m = vectors::hex_bytes(text, area_at, &mut area);
-    let count = vectors::unsigned(text, at) as usize;
+    let m = words::hex_bytes(text, area_at, &mut area);
+    let count = words::unsigned(text, at) as usize;
     let mut out = [0u8; 8192];
     let e = area_drop::take_mp3gain(&area[0..m], count, &mut out);
-    edited(text, vectors::next_word(text, area_at), e, &out)
+    edited(text, words::next_word(text, area_at), e, &out)
 }
 
 // `set_undo_gain COUNT AREA LEFT RIGHT W|N ..`.
 fn set_undo_gain(text: &[u8], at: usize) -> bool {
-    let area_at = vectors::next_word(text, at);
-    let left_at = vectors::next_word(text, area_at);
-    let right_at = vectors::next_word(text, left_at);
-    let flag_at = vectors::next_word(text, right_at);
+    let area_at = words::next_word(text, at);
+    let left_at = words::next_word(text, area_at);
+    let right_at = words::next_word(text, left_at);
+    let flag_at = words::next_word(text, right_at);
     let mut area = [0u8; 4096];
-    let m = vectors::hex_bytes(text, area_at, &mut area);
-    let count = vectors::unsigned(text, at) as usize;
-    let left = vectors::signed(text, left_at);
-    let right = vectors::signed(text, right_at);
+    let m = words::hex_bytes(text, area_at, &mut area);
+    let count = words::unsigned(text, at) as usize;
+    let left = words::signed(text, left_at);
+    let right = words::signed(text, right_at);
     let wrap = lists::starts_with(text, flag_at, b"W");
     let mut out = [0u8; 8192];
     let e = area_values::set_undo_gain(&area[0..m], count, left, right, wrap, &mut out);
-    edited(text, vectors::next_word(text, flag_at), e, &out)
+    edited(text, words::next_word(text, flag_at), e, &out)
 }
 
 // `set_minmax COUNT AREA LEAST GREATEST ..`.
 fn set_minmax(text: &[u8], at: usize) -> bool {
-    let area_at = vectors::next_word(text, at);
-    let least_at = vectors::next_word(text, area_at);
-    let greatest_at = vectors::next_word(text, least_at);
+    let area_at = words::next_word(text, at);
+    let least_at = words::next_word(text, area_at);
+    let greatest_at = words::next_word(text, least_at);
     let mut area = [0u8; 4096];
-    let m = vectors::hex_bytes(text, area_at, &mut area);
-    let count = vectors::unsigned(text, at) as usize;
-    let least = (vectors::unsigned(text, least_at) % 256) as u8;
-    let greatest = (vectors::unsigned(text, greatest_at) % 256) as u8;
+    let m = words::hex_bytes(text, area_at, &mut area);
+    let count = words::unsigned(text, at) as usize;
+    let least = (words::unsigned(text, least_at) % 256) as u8;
+    let greatest = (words::unsigned(text, greatest_at) % 256) as u8;
     let mut out = [0u8; 8192];
     let e = area_values::set_minmax(&area[0..m], count, least, greatest, &mut out);
-    edited(text, vectors::next_word(text, greatest_at), e, &out)
+    edited(text, words::next_word(text, greatest_at), e, &out)
 }
 
 // Whether the call with the five texts from this place answers the words behind them.
 fn set_texts(text: &[u8], at0: usize, area: &[u8], count: usize) -> bool {
     let mut track_gain = [0u8; 512];
-    let n0 = vectors::hex_bytes(text, at0, &mut track_gain);
-    let at1 = vectors::next_word(text, at0);
+    let n0 = words::hex_bytes(text, at0, &mut track_gain);
+    let at1 = words::next_word(text, at0);
     let mut track_peak = [0u8; 512];
-    let n1 = vectors::hex_bytes(text, at1, &mut track_peak);
-    let at2 = vectors::next_word(text, at1);
+    let n1 = words::hex_bytes(text, at1, &mut track_peak);
+    let at2 = words::next_word(text, at1);
     let mut album_gain = [0u8; 512];
-    let n2 = vectors::hex_bytes(text, at2, &mut album_gain);
-    let at3 = vectors::next_word(text, at2);
+    let n2 = words::hex_bytes(text, at2, &mut album_gain);
+    let at3 = words::next_word(text, at2);
     let mut album_peak = [0u8; 512];
-    let n3 = vectors::hex_bytes(text, at3, &mut album_peak);
-    let at4 = vectors::next_word(text, at3);
+    let n3 = words::hex_bytes(text, at3, &mut album_peak);
+    let at4 = words::next_word(text, at3);
     let mut algorithm = [0u8; 512];
-    let n4 = vectors::hex_bytes(text, at4, &mut algorithm);
+    let n4 = words::hex_bytes(text, at4, &mut algorithm);
     let mut out = [0u8; 8192];
     let e = area_gains::set_replaygain(
         area,
@@ -239,21 +239,21 @@ fn set_texts(text: &[u8], at0: usize, area: &[u8], count: usize) -> bool {
         &algorithm[0..n4],
         &mut out,
     );
-    edited(text, vectors::next_word(text, at4), e, &out)
+    edited(text, words::next_word(text, at4), e, &out)
 }
 
 // `set_replaygain COUNT AREA TRACK_GAIN TRACK_PEAK ALBUM_GAIN ALBUM_PEAK ALGORITHM ..`.
 fn set_replaygain(text: &[u8], at: usize) -> bool {
-    let area_at = vectors::next_word(text, at);
+    let area_at = words::next_word(text, at);
     let mut area = [0u8; 4096];
-    let m = vectors::hex_bytes(text, area_at, &mut area);
-    let count = vectors::unsigned(text, at) as usize;
-    set_texts(text, vectors::next_word(text, area_at), &area[0..m], count)
+    let m = words::hex_bytes(text, area_at, &mut area);
+    let count = words::unsigned(text, at) as usize;
+    set_texts(text, words::next_word(text, area_at), &area[0..m], count)
 }
 
 // Whether the answer in the line at this place is the library's.
 fn agrees(text: &[u8], at: usize) -> bool {
-    let from = vectors::next_word(text, at);
+    let from = words::next_word(text, at);
     if lists::starts_with(text, at, b"key ") {
         return key(text, from);
     }

@@ -11,7 +11,8 @@ use Rattle.lists.specs.Bytes.{placeOf}
 use Rattle.lists.specs.Choice.{found}
 use Rattle.utf8.specs.declared.Part.{Part}
 use Rattle.utf8.specs.declared.Part.the-variants.{Good, Bad, End}
-use Rattle.utf8.specs.Utf8.{stepOf, size, after, mark, textOf, lossyFrom, lossy}
+use Rattle.utf8.specs.Utf8.{stepOf, size, after}
+use Rattle.lossy.specs.Lossy.{mark, textOf, lossyFrom, lossy}
 use Rattle.items.specs.Items.{Item, Head, head, areaBytes}
 use Rattle.items.proofs.Area.{AllSane, whole}
 use Rattle.ape.specs.declared.Footer.{Footer}

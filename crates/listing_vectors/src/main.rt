@@ -4,10 +4,10 @@ use vectors::Replay;
 // Whether the file of the line at this place lists as its text.
 fn agrees(text: &[u8], at: usize) -> bool {
     let mut file = [0u8; 16385];
-    let n = vectors::hex_bytes(text, at, &mut file);
+    let n = words::hex_bytes(text, at, &mut file);
     let mut listed = [0u8; 147473];
     let k = listing::list_tag(&file[0..n], &mut listed);
-    vectors::is_hex(text, vectors::next_word(text, at), &listed[0..k])
+    words::is_hex(text, words::next_word(text, at), &listed[0..k])
 }
 
 fn replay(text: &[u8]) -> Replay {

@@ -17,7 +17,7 @@ use Rattle.frame.specs.Gain.{adjust}
 use Rattle.frame.specs.Tail.{standsAt, startOf, tagStart}
 use Rattle.utf8.specs.Utf8.{numberOf, classAt, stepOf, validFrom, valid}
 use Rattle.utf8.specs.Utf8 as utf8
-use Rattle.utf8.proofs.Lists.{small-all}
+use Rattle.lossy.proofs.Lists.{small-all}
 use Rattle.items.specs.Items.{itemBytes, areaBytes, headAt, head, plainHead, parse, getItem, setItem, without}
 use Rattle.ape.specs.Tag.{blockBytes, tagBytes, serialize, findFooter, areaAt, moved, split, fileOf, replaced}
 use Rattle.calls.specs.Gate.{fit, allValid, gateItems, passesGate, itemsOf, tagFits}

@@ -20,7 +20,8 @@ use Rattle.ape.specs.Tag.{replaced}
 use Rattle.ape.specs.Answers.{hasRoom}
 use Rattle.ape_write.specs.declared.Written.{Written}
 use Rattle.ape_write.specs.declared.Written.the-variants.{Done, Refused}
-use Rattle.ape_write.specs.Answers.{roomPlan, writtenAnswer, writtenBytes}
+use Rattle.ape_write.specs.Answers.{writtenAnswer, writtenBytes}
+use Rattle.ape_replace.specs.Answers.{roomPlan}
 use Rattle.gate.specs.Gate.{Passed}
 use Rattle.gate.proofs.Gates.{short-items}
 use Rattle.edit.specs.Finish.{tagPlan}

@@ -3,15 +3,12 @@ use Prim.Native.Nat.{ℕ, zero, suc, _+_, _≤_}
 use native.Mathlib.Omega.{arith}
 use mathlib.Core.Path.{_≡_, refl, sym, ap}
 use mathlib.Core.Bool.{Bool, true, false, _&&_, cond, and-eq-true-iff, and-assoc}
-use mathlib.Core.List.{List, [], _∷_, _++_, append-assoc}
+use mathlib.Core.List.{List, [], _∷_, _++_}
 use lib.Dec.{leb}
 use lib.ListN.{length, getD}
-use lib.Seq.{take-append-le}
 use borrow.Author.Tests.{leb-true, le-leb}
 use Rattle.lists.specs.Bytes.{among}
-use Rattle.utf8.specs.declared.Part.{Part}
-use Rattle.utf8.specs.declared.Part.the-variants.{Good, Bad, End}
-use Rattle.utf8.specs.Utf8.{Row, rows, no-row, numberOf, classAt, begins, run, judged, stepOf, size, after, textOf, whole, lossyFrom, lossy, validFrom, valid}
+use Rattle.utf8.specs.Utf8.{Row, rows, no-row, numberOf, classAt, begins, run, judged, stepOf, size, after, whole, validFrom, valid}
 use Rattle.utf8.proofs.Laws.{step-within}
 
 -- ---- the next byte of any class lies from 80 to BF
@@ -58,30 +55,15 @@ module _ (t : List ℕ) (h : begins 0x80 0xBF t ≡ false) where
   run-stops (suc n) low high [] c = rw (none low high c)
   run-stops (suc n) low high (b ∷ s) c = ap (λ m. cond (among low high b) (suc m) 0) (run-stops n 0x80 0xBF s (λ b e. e))
 
-  step-stops : (b : ℕ) (s : List ℕ) → stepOf (b ∷ (s ++ t)) ≡ stepOf (b ∷ s)
+  pub step-stops : (b : ℕ) (s : List ℕ) → stepOf (b ∷ (s ++ t)) ≡ stepOf (b ∷ s)
   unfolding stepOf
   step-stops b s =
       let c = classAt (numberOf b) in
       ap (judged (c .more)) (run-stops (c .more) (c .low) (c .high) s (continues (numberOf b)))
 
-  text-stops : (x : Part) (s : List ℕ) → size x ≤ length s → textOf x (s ++ t) ≡ textOf x s
-  text-stops (Good n) s f = take-append-le n s t f
-  text-stops (Bad n) s f = refl
-  text-stops End s f = refl
-
-  inside : (n : ℕ) (s : List ℕ) → n ≤ suc (length s) → after n ≤ length s
+  pub inside : (n : ℕ) (s : List ℕ) → n ≤ suc (length s) → after n ≤ length s
   inside zero s f = omega arith
   inside (suc n) s f = omega arith
-
-  lossy-cut : (s : List ℕ) (k : ℕ) → k ≤ length s → lossyFrom k (s ++ t) ≡ lossyFrom k s ++ lossyFrom 0 t
-  unfolding lossyFrom
-  lossy-cut [] zero f = refl
-  lossy-cut [] (suc k) f = absurd (omega arith)
-  lossy-cut (b ∷ s) (suc k) f = lossy-cut s k (omega arith)
-  lossy-cut (b ∷ s) zero f =
-      let x = stepOf (b ∷ s) in
-      let w = step-within (b ∷ s) in
-      rw (step-stops b s, text-stops x (b ∷ s) w, lossy-cut s (after (size x)) (inside (size x) s w)) (sym (append-assoc (textOf x (b ∷ s)) _ _))
 
   valid-cut : (s : List ℕ) (k : ℕ) → k ≤ length s → validFrom k (s ++ t) ≡ (validFrom k s && validFrom 0 t)
   unfolding validFrom
@@ -92,11 +74,7 @@ module _ (t : List ℕ) (h : begins 0x80 0xBF t ≡ false) where
       let x = stepOf (b ∷ s) in
       rw (step-stops b s, valid-cut s (after (size x)) (inside (size x) s (step-within (b ∷ s)))) (sym (and-assoc (whole x) _ _))
 
--- ---- the laws
-
-pub lossy-boundary : (s t : List ℕ) → begins 0x80 0xBF t ≡ false → lossy (s ++ t) ≡ lossy s ++ lossy t
-unfolding lossy
-lossy-boundary s t h = lossy-cut t h s 0 (omega arith)
+-- ---- the law
 
 pub valid-boundary : (s t : List ℕ) → begins 0x80 0xBF t ≡ false → valid (s ++ t) ≡ (valid s && valid t)
 unfolding valid

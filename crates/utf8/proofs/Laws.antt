@@ -1,4 +1,4 @@
--- Laws of `stepOf`, `lossy` and `valid`.
+-- Laws of `stepOf` and `valid`.
 use Prim.Native.Nat.{ℕ, zero, suc, _+_, _-_, _≤_, _<_}
 use native.Mathlib.Omega.{arith}
 use mathlib.Core.Path.{_≡_, refl, sym, ap, _∙_}
@@ -6,13 +6,11 @@ use mathlib.Core.Bool.{Bool, true, false, _&&_, cond, and-eq-true-iff}
 use mathlib.Core.List.{List, [], _∷_, _++_, append-assoc, append-nil}
 use lib.Dec.{ltb, eqb}
 use lib.ListN.{length, take, drop, take-append-drop}
-use lib.Seq.{drop-at, length-take-le, take-append-le}
+use lib.Seq.{drop-at, length-take-le}
 use borrow.Author.Tests.{eqb-true, ltb-true, le-leb, eq-eqb}
-use Rattle.utf8.specs.declared.Part.{Part}
 use Rattle.utf8.specs.declared.Part.the-variants.{Good, Bad, End}
-use Rattle.lists.specs.Bytes.{among, all, Small}
-use Rattle.utf8.specs.Utf8.{numberOf, classAt, run, judged, stepOf, size, after, mark, textOf, whole, lossyFrom, lossy, validFrom, valid, plain}
-use Rattle.utf8.proofs.Lists.{small-nil, small-append, small-take, small-all}
+use Rattle.lists.specs.Bytes.{among, all}
+use Rattle.utf8.specs.Utf8.{numberOf, classAt, run, judged, stepOf, size, after, whole, validFrom, valid, plain}
 
 -- ---- one step
 
@@ -84,7 +82,7 @@ char b s h =
 pub char-is : {b : ℕ} {s : List ℕ} (x : Char b s) → stepOf (b ∷ s) ≡ Good (suc (x .n))
 char-is {b} {s} x = rw take-append-drop at (x .alone (drop (x .n) s))
 
-rejoin : (n : ℕ) (s t : List ℕ) → take n s ++ (drop n s ++ t) ≡ s ++ t
+pub rejoin : (n : ℕ) (s t : List ℕ) → take n s ++ (drop n s ++ t) ≡ s ++ t
 rejoin n s t = sym (append-assoc (take n s) (drop n s) t) ∙ rw take-append-drop
 
 pub char-front : {b : ℕ} {s : List ℕ} (x : Char b s) (t : List ℕ) → stepOf (b ∷ (s ++ t)) ≡ Good (suc (x .n))
@@ -92,30 +90,18 @@ char-front {b} {s} x t = rw (← rejoin (x .n) s t) (x .alone (drop (x .n) s ++ 
 
 -- ---- steps one after the other
 
-lossy-skip : (k : ℕ) (s : List ℕ) → lossyFrom k s ≡ lossyFrom 0 (drop k s)
-unfolding lossyFrom
-lossy-skip zero s = refl
-lossy-skip (suc k) [] = refl
-lossy-skip (suc k) (b ∷ s) = lossy-skip k s
-
 valid-skip : (k : ℕ) (s : List ℕ) → validFrom k s ≡ validFrom 0 (drop k s)
 unfolding validFrom
 valid-skip zero s = refl
 valid-skip (suc k) [] = refl
 valid-skip (suc k) (b ∷ s) = valid-skip k s
 
-drop-moves : (n b : ℕ) (s : List ℕ) → 0 < n → drop (after n) s ≡ drop n (b ∷ s)
+-- behind a part stands what is behind the bytes after its first
+pub drop-moves : (n b : ℕ) (s : List ℕ) → 0 < n → drop (after n) s ≡ drop n (b ∷ s)
 drop-moves zero b s h = absurd (omega arith)
 drop-moves (suc n) b s h = refl
 
 -- the first part, and then the rest
-pub lossy-turn : (s : List ℕ) → lossy s ≡ textOf (stepOf s) s ++ lossy (drop (size (stepOf s)) s)
-unfolding lossy lossyFrom
-lossy-turn [] = unfold stepOf in refl
-lossy-turn (b ∷ s) =
-    ap (λ (l : List ℕ). textOf (stepOf (b ∷ s)) (b ∷ s) ++ l)
-    (lossy-skip (after (size (stepOf (b ∷ s)))) s ∙ ap (lossyFrom 0) (drop-moves (size (stepOf (b ∷ s))) b s (step-moves b s)))
-
 pub valid-turn : (s : List ℕ) → valid s ≡ (whole (stepOf s) && valid (drop (size (stepOf s)) s))
 unfolding valid validFrom
 valid-turn [] = unfold stepOf in refl
@@ -123,19 +109,7 @@ valid-turn (b ∷ s) =
     ap (λ (t : Bool). whole (stepOf (b ∷ s)) && t)
     (valid-skip (after (size (stepOf (b ∷ s)))) s ∙ ap (validFrom 0) (drop-moves (size (stepOf (b ∷ s))) b s (step-moves b s)))
 
--- a valid front stands as it is, whatever stands behind it
-lossy-front : (a : List ℕ) (k : ℕ) (t : List ℕ) → validFrom k a ≡ true → k ≤ length a → lossyFrom k (a ++ t) ≡ drop k a ++ lossyFrom 0 t
-unfolding lossyFrom validFrom
-lossy-front [] zero t v h = refl
-lossy-front [] (suc k) t v h = absurd (omega arith)
-lossy-front (b ∷ a) (suc k) t v h = lossy-front a k t v (omega arith)
-lossy-front (b ∷ a) zero t v h =
-    let (w, r) = and-eq-true-iff (whole (stepOf (b ∷ a))) _ .0 v in
-    let x = char b a w in
-    let rest : validFrom (x .n) a ≡ true = rw (char-is x) at r in
-    let tail : lossyFrom (x .n) (a ++ t) ≡ drop (x .n) a ++ lossyFrom 0 t = lossy-front a (x .n) t rest (x .fits) in
-    rw (char-front x t, take-append-le (x .n) a t (x .fits), tail) (ap (λ (l : List ℕ). b ∷ l) (rejoin (x .n) a (lossyFrom 0 t)))
-
+-- a valid front decides nothing
 valid-front : (a : List ℕ) (k : ℕ) (t : List ℕ) → validFrom k a ≡ true → k ≤ length a → validFrom k (a ++ t) ≡ validFrom 0 t
 unfolding validFrom
 valid-front [] zero t v h = refl
@@ -149,79 +123,25 @@ valid-front (b ∷ a) zero t v h =
 
 -- ---- the laws
 
--- what is valid stands as it is, in front of anything
-pub lossy-append : (a t : List ℕ) → valid a ≡ true → lossy (a ++ t) ≡ a ++ lossy t
-unfolding lossy valid
-lossy-append a t v = lossy-front a 0 t v (omega arith)
-
--- so only what stands behind it decides
+-- behind what is valid, only what stands behind it decides
 pub valid-append : (a t : List ℕ) → valid a ≡ true → valid (a ++ t) ≡ valid t
 unfolding valid
 valid-append a t v = valid-front a 0 t v (omega arith)
 
--- valid text converts to itself
-pub lossy-valid : (s : List ℕ) → valid s ≡ true → lossy s ≡ s
-lossy-valid s v =
-    let nothing : lossy [] ≡ [] = unfold lossy lossyFrom in refl in
-    let e : lossy (s ++ []) ≡ s ++ lossy [] = lossy-append s [] v in
-    rw (nothing, append-nil) at e
+-- a character is valid in front of what is valid
+pub valid-good : (s : List ℕ) (b n : ℕ) → stepOf (b ∷ s) ≡ Good n → (t : List ℕ) → validFrom 0 t ≡ true → validFrom 0 (take n (b ∷ s) ++ t) ≡ true
+unfolding validFrom
+valid-good s b zero e t v = v
+valid-good s b (suc n) e t v =
+    let x = char b s (rw e) in
+    let m : n ≡ x .n = let q : Good (suc n) ≡ Good (suc (x .n)) = sym e ∙ char-is x in cc in
+    rw (m, x .alone t, valid-skip (x .n) (take (x .n) s ++ t), drop-at (take (x .n) s) t (x .n) (length-take-le (x .n) s (x .fits))) v
 
-module _ (s : List ℕ) (b : ℕ) where
-  -- a step's text is valid in front of what is valid
-  valid-text : (x : Part) → stepOf (b ∷ s) ≡ x → (t : List ℕ) → validFrom 0 t ≡ true → validFrom 0 (textOf x (b ∷ s) ++ t) ≡ true
-  unfolding validFrom
-  valid-text (Good zero) e t v = v
-  valid-text (Good (suc n)) e t v =
-      let x = char b s (rw e) in
-      let m : n ≡ x .n = let q : Good (suc n) ≡ Good (suc (x .n)) = sym e ∙ char-is x in cc in
-      rw (m, x .alone t, valid-skip (x .n) (take (x .n) s ++ t), drop-at (take (x .n) s) t (x .n) (length-take-le (x .n) s (x .fits))) v
-  valid-text (Bad n) e t v = unfold stepOf run classAt numberOf in v
-  valid-text End e t v = v
-
--- a character is valid
+-- and alone
 pub valid-char : (s : List ℕ) (n : ℕ) → stepOf s ≡ Good n → valid (take n s) ≡ true
 unfolding valid
 valid-char [] n e = let q : stepOf [] ≡ End = unfold stepOf in refl in let z : _≡_ {A = ℕ} 0 1 = cc in absurd (omega arith)
-valid-char (b ∷ s) n e = rw append-nil at (valid-text s b (Good n) e [] (unfold validFrom in refl))
-
-valid-lossyFrom : (s : List ℕ) (k : ℕ) → validFrom 0 (lossyFrom k s) ≡ true
-unfolding lossyFrom
-valid-lossyFrom [] k = unfold validFrom in refl
-valid-lossyFrom (b ∷ s) (suc k) = valid-lossyFrom s k
-valid-lossyFrom (b ∷ s) zero = valid-text s b (stepOf (b ∷ s)) refl _ (valid-lossyFrom s (after (size (stepOf (b ∷ s)))))
-
--- the result is valid
-pub valid-lossy : (s : List ℕ) → valid (lossy s) ≡ true
-unfolding valid lossy
-valid-lossy s = valid-lossyFrom s 0
-
--- and only valid text converts to itself
-pub valid-same : (s : List ℕ) → lossy s ≡ s → valid s ≡ true
-valid-same s e = ap valid (sym e) ∙ valid-lossy s
-
--- converting twice is converting once
-pub lossy-lossy : (s : List ℕ) → lossy (lossy s) ≡ lossy s
-lossy-lossy s = lossy-valid (lossy s) (valid-lossy s)
-
--- bytes stay bytes
-module _ (s : List ℕ) (b : ℕ) (h : Small (b ∷ s)) where
-  small-text : (x : Part) → Small (textOf x (b ∷ s))
-  unfolding all
-  small-text (Good n) = small-take n (b ∷ s) h
-  small-text (Bad n) = small-all mark refl
-  small-text End = small-nil
-
-small-lossyFrom : (s : List ℕ) (k : ℕ) → Small s → Small (lossyFrom k s)
-unfolding lossyFrom
-small-lossyFrom [] k h = h
-small-lossyFrom (b ∷ s) (suc k) h = small-lossyFrom s k (λ i. h (suc i))
-small-lossyFrom (b ∷ s) zero h =
-    let x = stepOf (b ∷ s) in
-    small-append (textOf x (b ∷ s)) _ (small-text s b h x) (small-lossyFrom s (after (size x)) (λ i. h (suc i)))
-
-pub lossy-small : (s : List ℕ) → Small s → Small (lossy s)
-unfolding lossy
-lossy-small s h = small-lossyFrom s 0 h
+valid-char (b ∷ s) n e = rw append-nil at (valid-good s b n e [] (unfold validFrom in refl))
 
 -- ASCII is valid; of a quoted text, `valid-plain (ascii "..") refl` under `unfolding all`
 pub valid-plain : (s : List ℕ) → plain s ≡ true → valid s ≡ true

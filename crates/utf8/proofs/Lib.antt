@@ -1,11 +1,7 @@
 pub mod Rule
-pub mod Lists
 pub mod Laws
 pub mod Boundary
 pub mod Maximal
-pub mod Sizes
-pub mod Samples
 pub mod Steps
 pub mod Turn
 pub mod Stretch
-pub mod Written

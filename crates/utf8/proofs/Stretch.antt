@@ -2,14 +2,14 @@
 use Prim.Native.Nat.{ℕ, zero, suc, _+_, _-_, _≤_, _<_}
 use native.Mathlib.Omega.{arith}
 use mathlib.Core.Path.{_≡_, refl, sym, ap, _∙_}
-use mathlib.Core.List.{List, [], _∷_, _++_, append-nil}
+use mathlib.Core.List.{List, [], _∷_, _++_}
 use lib.Dec.{eqb}
-use lib.ListN.{length, getD, drop, length-append, take-append-drop}
+use lib.ListN.{length, getD, drop, take-append-drop}
 use lib.Seq.{drop-cons, drop-drop, take-add}
 use borrow.Author.Tests.{lt-ltb, ne-eqb}
 use Rattle.utf8.specs.declared.Part.the-variants.{Good, Bad}
-use Rattle.utf8.specs.Utf8.{stepOf, mark, valid, validFrom, lossy, lossyFrom}
-use Rattle.utf8.proofs.Laws.{valid-plain, valid-append, valid-char, lossy-append}
+use Rattle.utf8.specs.Utf8.{stepOf, valid, validFrom}
+use Rattle.utf8.proofs.Laws.{valid-plain, valid-append, valid-char}
 use Rattle.lists.specs.Bytes.{all}
 use Rattle.lists.specs.Write.{part}
 use Rattle.lists.proofs.Places.{length-part}
@@ -22,7 +22,8 @@ part-join s a m e h k =
     let q : a + (m - a) ≡ m = omega arith in
     rw (p, take-add, drop-drop, q)
 
-part-rest : (s : List ℕ) (a e : ℕ) → a ≤ e → drop a s ≡ part a e s ++ drop e s
+-- what stands from a place is what stands up to a later one, and the rest
+pub part-rest : (s : List ℕ) (a e : ℕ) → a ≤ e → drop a s ≡ part a e s ++ drop e s
 part-rest s a e h =
     let q : a + (e - a) ≡ e = omega arith in
     sym (take-append-drop (e - a) (drop a s)) ∙ rw (drop-drop, q)
@@ -54,28 +55,12 @@ char {s} {a} {m} {n} x e h =
     let z : m + n - m ≡ n = omega arith in
     join x (record { order = omega arith; inside = h; good = rw z (valid-char (drop m s) n e) })
 
-pub lossy-stretch : {s : List ℕ} {a e : ℕ} → Stretch s a e → lossy (drop a s) ≡ part a e s ++ lossy (drop e s)
-lossy-stretch {s} {a} {e} x = ap lossy (part-rest s a e (x .order)) ∙ lossy-append (part a e s) (drop e s) (x .good)
-
 valid-stretch : {s : List ℕ} {a e : ℕ} → Stretch s a e → valid (drop a s) ≡ valid (drop e s)
 valid-stretch {s} {a} {e} x = ap valid (part-rest s a e (x .order)) ∙ valid-append (part a e s) (drop e s) (x .good)
 
 -- at the end there is nothing more
 pub last : {s : List ℕ} {a e b : ℕ} → Ran s a e b → b ≡ 0 → drop e s ≡ []
 last {s} {a} {e} {b} x h = ended s e (sym (x .stop)) (rw h)
-
-broken : (s : List ℕ) (e b : ℕ) → stepOf (drop e s) ≡ stopOf b → (b ≡ 0 → ⊥) → Turn s e (Bad b)
-broken s e zero p h = absurd (h refl)
-broken s e (suc n) p h = bad (sym p) refl
-
--- an ill-formed part is marked
-pub marked : {s : List ℕ} {a e b : ℕ} → Ran s a e b → (b ≡ 0 → ⊥) → lossy (drop a s) ≡ part a e s ++ (mark ++ lossy (drop (e + b) s))
-marked {s} {a} {e} {b} x h = lossy-stretch (x .stretch) ∙ rw (broken s e b (x .stop) h .gives)
-
-pub unmarked : {s : List ℕ} {a e b : ℕ} → Ran s a e b → b ≡ 0 → lossy (drop a s) ≡ part a e s
-unmarked {s} {a} {e} {b} x h =
-    let empty : lossy [] ≡ [] = unfold lossy lossyFrom in refl in
-    lossy-stretch (x .stretch) ∙ rw (last x h, empty, append-nil)
 
 valid-stop : (s : List ℕ) (e b : ℕ) → stepOf (drop e s) ≡ stopOf b → valid (drop e s) ≡ eqb b 0
 valid-stop s e zero p = rw (ended s e (sym p) refl) (unfold valid validFrom in refl)
@@ -89,16 +74,5 @@ pub stops : (n : ℕ) → 0 < n → Bad n ≡ stopOf n
 stops zero h = absurd (omega arith)
 stops (suc n) h = refl
 
--- ---- sizes
-
 pub part-size : {s : List ℕ} {a e : ℕ} → Stretch s a e → length (part a e s) ≡ e - a
 part-size {s} {a} {e} x = length-part a e s (x .inside)
-
-pub size-stretch : {s : List ℕ} {a e : ℕ} → Stretch s a e → length (lossy (drop a s)) ≡ (e - a) + length (lossy (drop e s))
-size-stretch {s} {a} {e} x = ap length (lossy-stretch x) ∙ rw (length-append, part-size x)
-
-pub size-unmarked : {s : List ℕ} {a e b : ℕ} → Ran s a e b → b ≡ 0 → length (lossy (drop a s)) ≡ e - a
-size-unmarked x h = ap length (unmarked x h) ∙ part-size (x .stretch)
-
-pub size-marked : {s : List ℕ} {a e b : ℕ} → Ran s a e b → (b ≡ 0 → ⊥) → length (lossy (drop a s)) ≡ (e - a) + (3 + length (lossy (drop (e + b) s)))
-size-marked {s} {a} {e} {b} x h = ap length (marked x h) ∙ rw (length-append, length-append, part-size (x .stretch))

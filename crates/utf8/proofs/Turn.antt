@@ -3,19 +3,18 @@ use Prim.Native.Nat.{ℕ, _+_, _≤_, _<_}
 use native.Mathlib.Omega.{arith}
 use mathlib.Core.Path.{_≡_, refl, sym, _∙_}
 use mathlib.Core.Bool.{_&&_}
-use mathlib.Core.List.{List, [], _∷_, _++_}
+use mathlib.Core.List.{List, [], _∷_}
 use lib.ListN.{length, drop, length-drop}
 use lib.Seq.{drop-drop}
 use Rattle.utf8.specs.declared.Part.{Part}
 use Rattle.utf8.specs.declared.Part.the-variants.{Good, Bad, End}
-use Rattle.utf8.specs.Utf8.{stepOf, size, textOf, whole, lossy, valid}
-use Rattle.utf8.proofs.Laws.{step-within, step-moves, lossy-turn, valid-turn}
+use Rattle.utf8.specs.Utf8.{stepOf, size, whole, valid}
+use Rattle.utf8.proofs.Laws.{step-within, step-moves, valid-turn}
 
 -- x stands at a place of s, and the rest begins behind it
 pub record Turn (s : List ℕ) (at : ℕ) (x : Part) : Type 0 where
   pub moves : 0 < size x
   pub inside : at + size x ≤ length s
-  pub gives : lossy (drop at s) ≡ textOf x (drop at s) ++ lossy (drop (at + size x) s)
   pub tells : valid (drop at s) ≡ (whole x && valid (drop (at + size x) s))
 
 moved : (t : List ℕ) (x : Part) → stepOf t ≡ x → (x ≡ End → ⊥) → 0 < size x
@@ -30,7 +29,6 @@ turn s at x e h =
     record {
       moves = m;
       inside = omega (arith, length-drop at s);
-      gives = lossy-turn (drop at s) ∙ rw (e, drop-drop);
       tells = valid-turn (drop at s) ∙ rw (e, drop-drop);
     }
 

@@ -1,4 +1,4 @@
--- UTF-8 by the Unicode standard: table 3-7 (well-formed byte sequences), and section 3.9, "substitution of maximal subparts" (D93b).
+-- UTF-8 by the Unicode standard: table 3-7 (well-formed byte sequences), and D93b (maximal subparts).
 use Prim.Native.Nat.{ℕ, zero, suc, _≤_, _<_}
 use mathlib.Core.Path.{_≡_}
 use mathlib.Core.Logic.{_⊎_}
@@ -105,33 +105,13 @@ after (suc n) = n
 
 -- ---- a text: one step after the other
 
--- U+FFFD, which stands for an ill-formed part
-abbrev pub mark : List ℕ
-mark = 0xEF ∷ 0xBF ∷ 0xBD ∷ []
-
--- what becomes of the first part of s
-abbrev pub textOf : Part → List ℕ → List ℕ
-textOf (Good n) s = take n s
-textOf (Bad n) s = mark
-textOf End s = []
-
 -- no ill-formed part
 abbrev pub whole : Part → Bool
 whole (Good n) = true
 whole (Bad n) = false
 whole End = true
 
--- the text behind its first k bytes, which belong to a step that was taken
-unfoldable pub lossyFrom : ℕ → List ℕ → List ℕ
-lossyFrom k [] = []
-lossyFrom (suc k) (b ∷ s) = lossyFrom k s
-lossyFrom zero (b ∷ s) = let x = stepOf (b ∷ s) in textOf x (b ∷ s) ++ lossyFrom (after (size x)) s
-
--- the text with a mark for each ill-formed part
-unfoldable pub lossy : List ℕ → List ℕ
-lossy s = lossyFrom 0 s
-
--- the same walk: no part is ill-formed
+-- behind the first k bytes, which belong to a step that was taken, no part is ill-formed
 unfoldable pub validFrom : ℕ → List ℕ → Bool
 validFrom k [] = true
 validFrom (suc k) (b ∷ s) = validFrom k s

@@ -1,11 +1,9 @@
-// UTF-8 by the Unicode standard: what stands at a place of a text, whether a text is well formed, and the text with U+FFFD in place of each ill-formed part.
+// UTF-8 by the Unicode standard: what stands at a place of a text, where its characters end, and whether it is well formed.
 ghost use mathlib.Core.Path.{_≡_};
-ghost use Prim.Native.Nat.{_≤_, _+_};
+ghost use Prim.Native.Nat.{_≤_};
 ghost use lib.ListN.{length, drop};
-ghost use Rattle.lists.specs.Write.{over, splice};
-ghost use Rattle.utf8.specs.Utf8.{class, numberOf, Classes, begins, follow, stepOf, valid, lossy};
+ghost use Rattle.utf8.specs.Utf8.{class, numberOf, Classes, begins, follow, stepOf, valid};
 ghost use Rattle.utf8.specs.Runs.{Stretch, Ran};
-ghost use Rattle.utf8.specs.Write.{answer, bytes, within};
 
 mod table;
 
@@ -20,12 +18,6 @@ pub enum Part {
 pub struct Run {
     pub end: usize,
     pub bad: usize,
-}
-
-// How many bytes there are, or that there is no room for them.
-pub enum Converted {
-    Done(usize),
-    NoRoom,
 }
 
 // The table of class numbers. A call copies it once and lends it to the functions that take `table`.
@@ -171,7 +163,7 @@ fn threes_end(table: &[u8; 256], s: &[u8], from: usize) -> usize
 }
 
 // Where the characters from here end, and how many bytes the ill-formed part there has: none at the end of the text.
-fn run_from(table: &[u8; 256], s: &[u8], from: usize) -> Run
+pub fn run_from(table: &[u8; 256], s: &[u8], from: usize) -> Run
     requires { ⌜ (Classes (now table)) × (from ≤ length (now s)) ⌝ }
     ensures { λ r. ⌜ Ran (now (s .entry)) from (r .end) (r .bad) ⌝ }
 {
@@ -212,80 +204,4 @@ pub fn is_utf8(s: &[u8]) -> bool
 {
     let table = class_table();
     is_utf8_by(&table, s)
-}
-
-// How many bytes the text has with U+FFFD in place of each ill-formed part, where that is at most `room`. With the table lent.
-pub fn lossy_within(table: &[u8; 256], s: &[u8], room: usize) -> Converted
-    requires { ⌜ Classes (now table) ⌝ }
-    ensures { λ r. ⌜ r ≡ answer (within room (lossy (now (s .entry)))) ⌝ }
-{
-    let mut at = 0;
-    let mut size = 0;
-    loop {
-        let r = run_from(table, s, at);
-        let n = r.end - at;
-        if room - size < n {
-            return Converted::NoRoom;
-        }
-        size += n;
-        if r.bad == 0 {
-            return Converted::Done(size);
-        }
-        if room - size < 3 {
-            return Converted::NoRoom;
-        }
-        size += 3;
-        at = r.end + r.bad;
-    }
-}
-
-// How many bytes the text has with U+FFFD in place of each ill-formed part, where that is at most `room`.
-pub fn lossy_size(s: &[u8], room: usize) -> Converted
-    ensures { λ r. ⌜ r ≡ answer (within room (lossy (now (s .entry)))) ⌝ }
-{
-    let table = class_table();
-    lossy_within(&table, s, room)
-}
-
-// Writes the text, with U+FFFD in place of each ill-formed part, into `out` from `at`, and answers where it ends. With the table lent.
-pub fn lossy_put(table: &[u8; 256], out: &mut [u8], at: usize, s: &[u8]) -> usize
-    requires { ⌜ (Classes (now table)) × (at + length (lossy (now s)) ≤ length (now out)) ⌝ }
-    ensures { λ r. ⌜ (r ≡ at + length (lossy (now (s .entry)))) × (now (out .exit) ≡ splice (now (out .entry)) at (lossy (now (s .entry)))) ⌝ }
-{
-    let mut from = 0;
-    let mut o = at;
-    loop {
-        let r = run_from(table, s, from);
-        let e = r.end;
-        let bad = r.bad;
-        let p = lists::put_part(out, o, s, from, e);
-        if bad == 0 {
-            return p;
-        }
-        o = lists::put(out, p, b"\xEF\xBF\xBD");
-        from = e + bad;
-    }
-}
-
-// Writes the text, with U+FFFD in place of each ill-formed part, at the front of `out` where there is room; else nothing is written.
-// What is written is at least as long as `s`, at most three times as long, and `s` itself where that is UTF-8.
-pub fn lossy_into(s: &[u8], out: &mut [u8]) -> Converted
-    ensures { λ r. ⌜ (let plan = within (length (now (out .entry))) (lossy (now (s .entry))) in
-        (r ≡ answer plan) × (now (out .exit) ≡ over (bytes plan) (now (out .entry)))) ⌝ }
-{
-    if out.len() < s.len() {
-        return Converted::NoRoom;
-    }
-    let table = class_table();
-    if s.len() <= out.len() / 3 {
-        return Converted::Done(lossy_put(&table, out, 0, s));
-    }
-    if is_utf8_by(&table, s) {
-        return Converted::Done(lists::put(out, 0, s));
-    }
-    let x = lossy_within(&table, s, out.len());
-    let Converted::Done(_) = x else {
-        return Converted::NoRoom;
-    };
-    Converted::Done(lossy_put(&table, out, 0, s))
 }

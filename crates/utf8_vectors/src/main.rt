@@ -1,18 +1,18 @@
-// Replays the recorded answers of Rust's standard library for crate utf8.
+// Replays the recorded answers of Rust's standard library for crates utf8 and lossy.
 ghost use Prim.Native.Nat.{_≤_};
-use utf8::Converted;
+use lossy::Converted;
 use vectors::Replay;
 
 // `utf8 TEXT BOOL`.
 fn well_formed(text: &[u8], at: usize) -> bool {
     let mut s = [0u8; 1024];
-    let n = vectors::hex_bytes(text, at, &mut s);
-    utf8::is_utf8(&s[0..n]) == lists::starts_with(text, vectors::next_word(text, at), b"1")
+    let n = words::hex_bytes(text, at, &mut s);
+    utf8::is_utf8(&s[0..n]) == lists::starts_with(text, words::next_word(text, at), b"1")
 }
 
 // Whether the conversion fits and has this length.
 fn fits(s: &[u8], out: &mut [u8]) -> bool {
-    let x = utf8::lossy_into(s, out);
+    let x = lossy::lossy_into(s, out);
     match x {
         Converted::Done(n) => n == out.len(),
         Converted::NoRoom => false,
@@ -49,9 +49,9 @@ fn refuses(s: &[u8], m: usize) -> bool
 // `lossy TEXT CONVERTED`: in exactly enough room, and in one byte less.
 fn lossy(text: &[u8], at: usize) -> bool {
     let mut s = [0u8; 1024];
-    let n = vectors::hex_bytes(text, at, &mut s);
+    let n = words::hex_bytes(text, at, &mut s);
     let mut wanted = [0u8; 3072];
-    let m = vectors::hex_bytes(text, vectors::next_word(text, at), &mut wanted);
+    let m = words::hex_bytes(text, words::next_word(text, at), &mut wanted);
     if 0 < m {
         if !refuses(&s[0..n], m - 1) {
             return false;
@@ -63,16 +63,16 @@ fn lossy(text: &[u8], at: usize) -> bool {
 // `size TEXT ROOM SIZE`: how long the conversion is, or `none` where there is not so much room.
 fn size(text: &[u8], at: usize) -> bool {
     let mut s = [0u8; 1024];
-    let n = vectors::hex_bytes(text, at, &mut s);
-    let room = vectors::next_word(text, at);
-    let wanted = vectors::next_word(text, room);
-    let x = utf8::lossy_size(&s[0..n], vectors::unsigned(text, room) as usize);
+    let n = words::hex_bytes(text, at, &mut s);
+    let room = words::next_word(text, at);
+    let wanted = words::next_word(text, room);
+    let x = lossy::lossy_size(&s[0..n], words::unsigned(text, room) as usize);
     match x {
         Converted::Done(found) => {
             if lists::starts_with(text, wanted, b"none") {
                 return false;
             }
-            found as u64 == vectors::unsigned(text, wanted)
+            found as u64 == words::unsigned(text, wanted)
         }
         Converted::NoRoom => lists::starts_with(text, wanted, b"none"),
     }
@@ -80,7 +80,7 @@ fn size(text: &[u8], at: usize) -> bool {
 
 // Whether the answer in the line at this place is the library's.
 fn agrees(text: &[u8], at: usize) -> bool {
-    let from = vectors::next_word(text, at);
+    let from = words::next_word(text, at);
     if lists::starts_with(text, at, b"utf8 ") {
         return well_formed(text, from);
     }

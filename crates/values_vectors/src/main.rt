@@ -11,7 +11,7 @@ fn is_hex(text: &[u8], at: usize, bytes: &[u8], len: usize) -> bool {
     if bytes.len() < len {
         return false;
     }
-    vectors::is_hex(text, at, &bytes[0..len])
+    words::is_hex(text, at, &bytes[0..len])
 }
 
 // Whether the word at this place is the hex of this text.
@@ -36,56 +36,56 @@ fn flag(text: &[u8], at: usize) -> bool {
 // `undo TEXT LEFT RIGHT FLAG`.
 fn undo(text: &[u8], at: usize) -> bool {
     let mut value = [0u8; 256];
-    let n = vectors::hex_bytes(text, at, &mut value);
-    let left = vectors::next_word(text, at);
-    let right = vectors::next_word(text, left);
+    let n = words::hex_bytes(text, at, &mut value);
+    let left = words::next_word(text, at);
+    let right = words::next_word(text, left);
     let u = values::parse_undo_values(&value[0..n]);
-    if u.left != vectors::signed(text, left) {
+    if u.left != words::signed(text, left) {
         return false;
     }
-    if u.right != vectors::signed(text, right) {
+    if u.right != words::signed(text, right) {
         return false;
     }
     let wrap = values::parse_undo_wrap(&value[0..n]);
-    is_flag(text, vectors::next_word(text, right), wrap)
+    is_flag(text, words::next_word(text, right), wrap)
 }
 
 // `accumulate TEXT LEFT RIGHT LEFT RIGHT`.
 fn accumulate(text: &[u8], at: usize) -> bool {
     let mut value = [0u8; 256];
-    let n = vectors::hex_bytes(text, at, &mut value);
-    let left = vectors::next_word(text, at);
-    let right = vectors::next_word(text, left);
-    let l = vectors::signed(text, left);
-    let r = vectors::signed(text, right);
+    let n = words::hex_bytes(text, at, &mut value);
+    let left = words::next_word(text, at);
+    let right = words::next_word(text, left);
+    let l = words::signed(text, left);
+    let r = words::signed(text, right);
     let u = values::accumulate_undo(&value[0..n], GainSteps(l), GainSteps(r));
-    let new_left = vectors::next_word(text, right);
-    if u.left != vectors::signed(text, new_left) {
+    let new_left = words::next_word(text, right);
+    if u.left != words::signed(text, new_left) {
         return false;
     }
-    u.right == vectors::signed(text, vectors::next_word(text, new_left))
+    u.right == words::signed(text, words::next_word(text, new_left))
 }
 
 // `format LEFT RIGHT FLAG TEXT`.
 fn format(text: &[u8], at: usize) -> bool {
-    let right = vectors::next_word(text, at);
-    let wrap = vectors::next_word(text, right);
+    let right = words::next_word(text, at);
+    let wrap = words::next_word(text, right);
     let t = values::format_undo_value(
-        vectors::signed(text, at),
-        vectors::signed(text, right),
+        words::signed(text, at),
+        words::signed(text, right),
         flag(text, wrap),
     );
-    is_text(text, vectors::next_word(text, wrap), t)
+    is_text(text, words::next_word(text, wrap), t)
 }
 
 // `minmax LEAST GREATEST TEXT`.
 fn minmax(text: &[u8], at: usize) -> bool {
-    let greatest = vectors::next_word(text, at);
-    let a = (vectors::unsigned(text, at) % 256) as u8;
-    let b = (vectors::unsigned(text, greatest) % 256) as u8;
+    let greatest = words::next_word(text, at);
+    let a = (words::unsigned(text, at) % 256) as u8;
+    let b = (words::unsigned(text, greatest) % 256) as u8;
     is_text(
         text,
-        vectors::next_word(text, greatest),
+        words::next_word(text, greatest),
         values::format_minmax(a, b),
     )
 }
@@ -93,27 +93,27 @@ fn minmax(text: &[u8], at: usize) -> bool {
 // `out KEY VALUE STEPS FLAG`.
 fn out(text: &[u8], at: usize) -> bool {
     let mut key = [0u8; 64];
-    let k = vectors::hex_bytes(text, at, &mut key);
-    let value_at = vectors::next_word(text, at);
+    let k = words::hex_bytes(text, at, &mut key);
+    let value_at = words::next_word(text, at);
     let mut value = [0u8; 256];
-    let n = vectors::hex_bytes(text, value_at, &mut value);
-    let steps = vectors::next_word(text, value_at);
-    let s = vectors::signed(text, steps);
+    let n = words::hex_bytes(text, value_at, &mut value);
+    let steps = words::next_word(text, value_at);
+    let s = words::signed(text, steps);
     let leaves = values::range_wraps_out(&key[0..k], &value[0..n], GainSteps(s));
-    is_flag(text, vectors::next_word(text, steps), leaves)
+    is_flag(text, words::next_word(text, steps), leaves)
 }
 
 // `shift KEY VALUE STEPS TEXT`: the new text, or `none`.
 fn shift(text: &[u8], at: usize) -> bool {
     let mut key = [0u8; 64];
-    let k = vectors::hex_bytes(text, at, &mut key);
-    let value_at = vectors::next_word(text, at);
+    let k = words::hex_bytes(text, at, &mut key);
+    let value_at = words::next_word(text, at);
     let mut value = [0u8; 256];
-    let n = vectors::hex_bytes(text, value_at, &mut value);
-    let steps = vectors::next_word(text, value_at);
-    let s = vectors::signed(text, steps);
+    let n = words::hex_bytes(text, value_at, &mut value);
+    let steps = words::next_word(text, value_at);
+    let s = words::signed(text, steps);
     let shifted = values::shift_stored_value(&key[0..k], &value[0..n], GainSteps(s));
-    let wanted = vectors::next_word(text, steps);
+    let wanted = words::next_word(text, steps);
     if !shifted.moved {
         return lists::starts_with(text, wanted, b"none");
     }
@@ -133,11 +133,11 @@ fn wraps(mode: GainMode) -> bool {
 // `slip TEXT REPLY LEFT RIGHT FLAG`.
 fn slip_line(text: &[u8], at: usize) -> bool {
     let mut value = [0u8; 256];
-    let n = vectors::hex_bytes(text, at, &mut value);
-    let reply = vectors::next_word(text, at);
-    let wanted = vectors::unsigned(text, reply);
-    let left = vectors::next_word(text, reply);
-    let right = vectors::next_word(text, left);
+    let n = words::hex_bytes(text, at, &mut value);
+    let reply = words::next_word(text, at);
+    let wanted = words::unsigned(text, reply);
+    let left = words::next_word(text, reply);
+    let right = words::next_word(text, left);
     let s = slip::parse_slip(&value[0..n]);
     match s {
         Slip::Steps(wish) => {
@@ -146,14 +146,14 @@ fn slip_line(text: &[u8], at: usize) -> bool {
             }
             let a = wish.left;
             let b = wish.right;
-            if a.0 != vectors::signed(text, left) {
+            if a.0 != words::signed(text, left) {
                 return false;
             }
-            if b.0 != vectors::signed(text, right) {
+            if b.0 != words::signed(text, right) {
                 return false;
             }
             let mode = wish.mode;
-            is_flag(text, vectors::next_word(text, right), wraps(mode))
+            is_flag(text, words::next_word(text, right), wraps(mode))
         }
         Slip::Refused(r) => replies::number(r) as u64 == wanted,
     }
@@ -161,13 +161,13 @@ fn slip_line(text: &[u8], at: usize) -> bool {
 
 // `db STEPS FLAG MILLIONTHS REST`.
 fn db(text: &[u8], at: usize) -> bool {
-    let minus = vectors::next_word(text, at);
-    let millionths = vectors::next_word(text, minus);
-    let d = decibels::steps_to_db(GainSteps(vectors::signed(text, at)));
-    if d.1 != vectors::unsigned(text, millionths) {
+    let minus = words::next_word(text, at);
+    let millionths = words::next_word(text, minus);
+    let d = decibels::steps_to_db(GainSteps(words::signed(text, at)));
+    if d.1 != words::unsigned(text, millionths) {
         return false;
     }
-    if d.2 != vectors::unsigned(text, vectors::next_word(text, millionths)) {
+    if d.2 != words::unsigned(text, words::next_word(text, millionths)) {
         return false;
     }
     is_flag(text, minus, d.0)
@@ -175,7 +175,7 @@ fn db(text: &[u8], at: usize) -> bool {
 
 // Whether the answer in the line at this place is the library's.
 fn agrees(text: &[u8], at: usize) -> bool {
-    let from = vectors::next_word(text, at);
+    let from = words::next_word(text, at);
     if lists::starts_with(text, at, b"undo ") {
         return undo(text, from);
     }

@@ -1,4 +1,1 @@
 pub mod Comments
-pub mod Numbers
-pub mod Signs
-pub mod Hex

@@ -1,2 +1,2 @@
+pub mod Digest
 pub mod Lines
-pub mod Words

@@ -1,16 +1,13 @@
--- Lines of words, and a replay of the answers in them.
-use Prim.Native.Nat.{ℕ, suc, _+_, _%_, _^_, min}
+-- Lines of answers, and a replay of them.
+use Prim.Native.Nat.{ℕ, suc, _+_, _%_, _^_}
 use mathlib.Core.Bool.{Bool, true, false, not, cond}
 use mathlib.Core.List.{List, [], _∷_, _++_}
-use lib.ListN.{length, drop}
+use lib.ListN.{drop}
 use lib.Dec.{eqb}
-use Rattle.lists.specs.Bytes.{ascii, placeOf}
+use Rattle.lists.specs.Bytes.{ascii}
 use Rattle.decimal.specs.Writing.{decimal}
+use Rattle.words.specs.Words.{behind}
 use Rattle.vectors.specs.declared.Replay.{Replay}
-
--- the place behind the first c from at, or the end of s where there is none
-abbrev pub behind : ℕ → List ℕ → ℕ → ℕ
-behind c s at = min (at + placeOf c (drop at s) + 1) (length s)
 
 -- how long the comments in front are; if `true`, s begins within one
 unfoldable pub comments : Bool → List ℕ → ℕ

@@ -1,4 +1,4 @@
-//! Crates `ape` and `ape_write`: the footer found, the tag read, serialized and replaced, on whole files.
+//! Crates `ape`, `ape_write` and `ape_replace`: the footer found, the tag read, serialized and replaced, on whole files.
 
 use super::Case;
 use crate::ape::{find_ape_footer, reach, read_ape_tag, ApeItem, ApeTag};

@@ -1,4 +1,4 @@
-//! Crate `utf8`: which texts are UTF-8, and the text with U+FFFD in place of each ill-formed part. The judge is Rust's standard library,
+//! Crates `utf8` and `lossy`: which texts are UTF-8, and the text with U+FFFD in place of each ill-formed part. The judge is Rust's standard library,
 //! through which the published source reads keys and values.
 
 use super::Case;

@@ -3,7 +3,7 @@ use Prim.Native.Nat.{ℕ, _+_, _-_, _≤_, _<_}
 use native.Mathlib.Omega.{arith}
 use borrow.Author.Needs.{needs}
 use lib.ListN.{length}
-use Rattle.utf8.specs.Utf8.{lossy}
+use Rattle.lossy.specs.Lossy.{lossy}
 use Rattle.items.specs.Items.{itemBytes}
 use Rattle.items.proofs.Area.{length-item}
 use Rattle.ape.specs.Tag.{converted}

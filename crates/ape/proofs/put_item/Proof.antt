@@ -8,8 +8,8 @@ use lib.ListN.{length}
 use Rattle.lists.specs.Le.{u32le}
 use Rattle.lists.specs.Write.{splice}
 use Rattle.lists.proofs.Wrote.{Wrote, start, next, ahead, done}
-use Rattle.utf8.specs.Utf8.{lossy}
-use Rattle.utf8.proofs.Sizes.{length-lossy}
+use Rattle.lossy.specs.Lossy.{lossy}
+use Rattle.lossy.proofs.Sizes.{length-lossy}
 use Rattle.items.specs.Items.{itemBytes}
 use Rattle.items.proofs.Area.{length-item}
 use Rattle.ape.specs.Tag.{converted}

@@ -1,6 +1,6 @@
 use borrow.Author.Needs.{needs}
 use lib.ListN.{length}
-use Rattle.ape_write.specs.Answers.{replacePlan}
+use Rattle.ape_replace.specs.Answers.{replacePlan}
 use Rattle.c_ape.proofs.Face.{face-of}
 use Rattle.c_ape.proofs.zib_replace_ape_tag.Statement.{statement}
 use Rattle.c_ape.proofs.zib_replace_ape_tag.Tie as tie

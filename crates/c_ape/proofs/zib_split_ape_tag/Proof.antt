@@ -1,8 +1,8 @@
 use mathlib.Core.Path.{_≡_, refl, ap}
 use borrow.Author.Needs.{needs}
 use borrow.Author.Tests.{le-leb, lt-leb}
-use Rattle.ape_write.specs.Answers.{cutOf}
-use Rattle.ape_write.specs.declared.Cut.{Cut}
+use Rattle.ape_replace.specs.Answers.{cutOf}
+use Rattle.ape_replace.specs.declared.Cut.{Cut}
 use Rattle.c_ape.proofs.zib_split_ape_tag.Statement.{statement}
 use Rattle.c_ape.proofs.zib_split_ape_tag.Tie as tie
 

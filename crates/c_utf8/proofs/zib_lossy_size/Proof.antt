@@ -1,8 +1,8 @@
 use mathlib.Core.Path.{_≡_, refl, sym, _∙_}
 use borrow.Author.Needs.{needs}
-use Rattle.utf8.specs.Utf8.{lossy}
-use Rattle.utf8.specs.Write.{within, answer}
-use Rattle.utf8.specs.declared.Converted.the-variants.{Done, NoRoom}
+use Rattle.lossy.specs.Lossy.{lossy}
+use Rattle.lossy.specs.Write.{within, answer}
+use Rattle.lossy.specs.declared.Converted.the-variants.{Done, NoRoom}
 use Rattle.c_utf8.proofs.zib_lossy_size.Statement.{statement}
 use Rattle.c_utf8.proofs.zib_lossy_size.Tie as tie
 

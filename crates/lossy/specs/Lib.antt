@@ -1,0 +1,2 @@
+pub mod Lossy
+pub mod Write
