@@ -93,16 +93,16 @@ pub fn put(out: &mut [u8], at: usize, src: &[u8]) -> usize
     at + i
 }
 
-// Writes all of `src` into `out` from `at`, a block at a time, each by way of one array that nothing else can refer to, so that the compiler copies
-// with `memcpy`; answers where it ends.
+// Writes all of `src` into `out` from `at`, a block at a time, and answers where it ends. Each block goes by way of an array that nothing else can
+// refer to: it is read whole before it is written, so the compiler copies it in registers, without the array.
 fn put_blocks(out: &mut [u8], at: usize, src: &[u8]) -> usize
     requires { ⌜ at + length (now src) ≤ length (now out) ⌝ }
     ensures { λ r. ⌜ (r ≡ at + length (now (src .entry))) × (now (out .exit) ≡ splice (now (out .entry)) at (now (src .entry))) ⌝ }
 {
-    let mut block = [0u8; 16384];
+    let mut block = [0u8; 128];
     let mut i = 0;
-    while 16384 <= src.len() - i {
-        let j = i + 16384;
+    while 128 <= src.len() - i {
+        let j = i + 128;
         put(&mut block, 0, &src[i..j]);
         put(out, at + i, &block);
         i = j;
@@ -119,7 +119,7 @@ pub fn put_part(out: &mut [u8], at: usize, src: &[u8], from: usize, to: usize) -
     put(out, at, &src[from..to])
 }
 
-// From how many bytes on a part is written in blocks: below it, clearing the block costs more than it saves.
+// From how many bytes on a part is written in blocks.
 const LONG: usize = 65536;
 
 // `put_part` for a part that may be long.

@@ -491,7 +491,7 @@ fn limits(c: &mut Compare) {
     assert_eq!(library::replace_ape_tag(&file[..LIMIT - 76], &area, 1, &mut out), Ok(LIMIT));
     assert!(out[..LIMIT] == reach::replace(&file[..LIMIT - 76], tag));
     // The lengths about which a long part is copied in blocks, and whole blocks.
-    for n in [65_535, 65_536, 65_537, 81_919, 81_920, 81_921, 1 << 20] {
+    for n in [65_535, 65_536, 65_537, 65_663, 65_664, 65_665, 1 << 20] {
         c.inputs += 1;
         let want = reach::replace(&file[..n], tag);
         assert_eq!(library::replace_ape_tag(&file[..n], &area, 1, &mut out), Ok(want.len()));

@@ -190,12 +190,12 @@ fn record(r: &mut Record) {
 fn bench(b: &mut Bench) {
     let value = "The quick brown fox jumps over the lazy dog";
     let mut text = Box::new([0; library::ROOM]);
-    for n in [1, 41, 256] {
+    for (n, things) in [(1, "item"), (41, "items"), (256, "items")] {
         let tag = tag_of((0..n).map(|i| item(&format!("KEY_{i:03}"), value)).collect());
         let whole = reach::replace(&vec![0x55; 4096], &tag);
         let file = &whole[whole.len().saturating_sub(LIMIT)..];
         b.row(
-            &format!("list_tag, {n} items (Rust: its reader, and a text of its items)"),
+            &format!("list_tag, {n} {things} (Rust: its reader, and a text of its items)"),
             || published(file),
             || library::list_tag(file, &mut text),
         );
