@@ -94,15 +94,15 @@ pub fn put(out: &mut [u8], at: usize, src: &[u8]) -> usize
 }
 
 // Writes all of `src` into `out` from `at`, a block at a time, and answers where it ends. Each block goes by way of an array that nothing else can
-// refer to: it is read whole before it is written, so the compiler copies it in registers, without the array.
+// refer to: it is read whole before it is written, so the compiler moves it in one call of `memmove`, without the array.
 fn put_blocks(out: &mut [u8], at: usize, src: &[u8]) -> usize
     requires { ⌜ at + length (now src) ≤ length (now out) ⌝ }
     ensures { λ r. ⌜ (r ≡ at + length (now (src .entry))) × (now (out .exit) ≡ splice (now (out .entry)) at (now (src .entry))) ⌝ }
 {
-    let mut block = [0u8; 128];
+    let mut block = [0u8; 256];
     let mut i = 0;
-    while 128 <= src.len() - i {
-        let j = i + 128;
+    while 256 <= src.len() - i {
+        let j = i + 256;
         put(&mut block, 0, &src[i..j]);
         put(out, at + i, &block);
         i = j;

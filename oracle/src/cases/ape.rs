@@ -591,6 +591,15 @@ fn bench(b: &mut Bench) {
             || reach::replace(&file, &tag),
             || library::replace_ape_tag(&file, &area, 41, &mut out),
         );
+        for past in [1, 8] {
+            // The allocation begins on a multiple of sixteen.
+            let mut out = vec![0; past + size + area.len() + 64];
+            b.row(
+                &format!("replace_ape_tag, {name}, an output {past} past a multiple of sixteen"),
+                || reach::replace(&file, &tag),
+                || library::replace_ape_tag(&file, &area, 41, &mut out[past..]),
+            );
+        }
         let mut copy = vec![0; size];
         let mut out = vec![0; size + area.len() + 64];
         b.row(

@@ -919,8 +919,83 @@ fn bench_keys(b: &mut Bench) {
     }
 }
 
+/// Keys of many lengths, and none but the last as long as the sought one: the Rust passes each by its length.
+const USUAL_KEYS: [&str; 10] = [
+    "Title",
+    "Artist",
+    "Album",
+    "Year",
+    "Track",
+    "Genre",
+    "Comment",
+    "Composer",
+    "Album Artist",
+    "MP3GAIN_ALBUM_MINMAX",
+];
+
+/// From item to item with nothing tested and no key's end searched, since the keys' lengths are lent: the least that any walk of an area does.
+fn bare_walk(area: &[u8], keys: &[usize]) -> usize {
+    keys.iter().fold(0, |at, key| at + 9 + key + u32::from_le_bytes(area[at..at + 4].try_into().unwrap()) as usize)
+}
+
+fn bench_lengths(b: &mut Bench) {
+    let value = "The quick brown fox jumps over the lazy dog";
+    for n in [41, 256] {
+        let usual = (0..n - 1).map(|i| item(&format!("{} {i}", USUAL_KEYS[i % 10]), value));
+        let tag = tag_of(usual.chain([item("REPLAYGAIN_REFERENCE_LOUDNESS", value)]).collect());
+        let lengths: Vec<usize> = tag.iter().map(|i| i.key().len()).collect();
+        let last = "replaygain_reference_loudness";
+        let (area, file) = (area_of(&tag), reach::serialize(&tag));
+        let mut out = vec![0; area.len() + 100];
+        let mut read = vec![0; 3 * file.len()];
+        let mut done = vec![0; file.len() + 300];
+        let keys = "keys of many lengths";
+        b.row(
+            &format!("get, the last of {n} items, {keys} (Rust: a tag already parsed)"),
+            || tag.get(last),
+            || library::get(&area, n, last.as_bytes()),
+        );
+        b.row(
+            &format!(
+                "no call: a bare walk over {n} items that tests nothing (Rust: get, {keys}, a tag already parsed)"
+            ),
+            || tag.get(last),
+            || bare_walk(&area, &lengths),
+        );
+        b.row(
+            &format!("get, the last of {n} items, {keys} (both from a file's bytes)"),
+            || read_ape_tag(&file).unwrap().get(last).map(str::len),
+            || {
+                let (count, length) = ape::library::read_ape_tag(&file, &mut read).unwrap().unwrap();
+                library::get(&read[..length], count, last.as_bytes()).map(|v| v.map(<[u8]>::len))
+            },
+        );
+        let mut parsed = tag.clone();
+        b.row(
+            &format!("set, the last of {n} items, {keys} (Rust: a tag already parsed, in place)"),
+            || parsed.set(last, value),
+            || library::set(&area, n, last.as_bytes(), value.as_bytes(), &mut out),
+        );
+        b.row(
+            &format!("set, the last of {n} items, {keys} (both from a file's bytes to a tag's bytes)"),
+            || {
+                let mut tag = read_ape_tag(&file).unwrap();
+                tag.set(last, value);
+                reach::serialize(&tag)
+            },
+            || {
+                let (count, length) = ape::library::read_ape_tag(&file, &mut read).unwrap().unwrap();
+                let (count, length) =
+                    library::set(&read[..length], count, last.as_bytes(), value.as_bytes(), &mut out).unwrap();
+                ape::library::serialize_ape_tag(&out[..length], count, &mut done)
+            },
+        );
+    }
+}
+
 fn bench(b: &mut Bench) {
     bench_keys(b);
+    bench_lengths(b);
     let value = "The quick brown fox jumps over the lazy dog";
     let new = "+003,-012,N";
     for n in [41, 256] {

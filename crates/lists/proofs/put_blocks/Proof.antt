@@ -13,7 +13,7 @@ use Rattle.lists.proofs.put_blocks.Statement.{statement}
 use Rattle.lists.proofs.put_blocks.Tie as tie
 
 abbrev Inv-loop : tie.InvT-loop
-Inv-loop out₀ at src block₀ i₀ out block i = (i ≤ length src) × (length block ≡ 128) × (length out ≡ length out₀) × Wrote out₀ at (take i src) (at + i) out
+Inv-loop out₀ at src block₀ i₀ out block i = (i ≤ length src) × (length block ≡ 256) × (length out ≡ length out₀) × Wrote out₀ at (take i src) (at + i) out
 
 abbrev μ-loop : tie.MeasureT-loop
 μ-loop out₀ at src block₀ i₀ out block i = length src - i
@@ -25,18 +25,18 @@ loop-holds c =
 
 -- a whole block is left
 left-over : (c : tie.In-loop Inv-loop μ-loop) → let l = c .before in let s = l .before .before .before .args .src .now in
-    length (part (l .loop .i) (l .loop .i + 128) s) ≡ 128
+    length (part (l .loop .i) (l .loop .i + 256) s) ≡ 256
 left-over c =
     let l = c .before in
     let i = l .loop .i in
-    omega (arith, length-part i (i + 128) (l .before .before .before .args .src .now) (omega (arith, c .loop-test .taken, l .loop .inv .0)))
+    omega (arith, length-part i (i + 256) (l .before .before .before .args .src .now) (omega (arith, c .loop-test .taken, l .loop .inv .0)))
 
 -- the block is the next part of src
 filled : (c : tie.After-put Inv-loop μ-loop) → let l = c .before .before .before .before in let s = l .before .before .before .args .src .now in
-    c .put .last .0 ≡ part (l .loop .i) (l .loop .i + 128) s
+    c .put .last .0 ≡ part (l .loop .i) (l .loop .i + 256) s
 filled c =
     let l = c .before .before .before .before in
-    let w = part (l .loop .i) (l .loop .i + 128) (l .before .before .before .args .src .now) in
+    let w = part (l .loop .i) (l .loop .i + 256) (l .before .before .before .args .src .now) in
     c .put .ensures .1 ∙ splice-all (l .loop .block) w (omega (arith, left-over (c .before .before .before), l .loop .inv .1))
 
 loop-again : tie.Need-loop-again Inv-loop μ-loop
@@ -45,14 +45,14 @@ loop-again c =
     let l = p .before .before .before .before in
     let g = l .before .before .before .args in
     let i = l .loop .i in
-    let b : p .put .last .0 ≡ part i (i + 128) (g .src .now) = filled p in
+    let b : p .put .last .0 ≡ part i (i + 256) (g .src .now) = filled p in
     let n = left-over (p .before .before .before) in
-    let w : c .before .before .put2 .last .0 ≡ splice (l .loop .out) (g .at + i) (part i (i + 128) (g .src .now)) =
+    let w : c .before .before .put2 .last .0 ≡ splice (l .loop .out) (g .at + i) (part i (i + 256) (g .src .now)) =
     c .before .before .put2 .ensures .1 ∙ ap (splice (l .loop .out) (g .at + i)) b in (
       omega (arith, p .before .before .before .loop-test .taken, l .loop .inv .0),
       ap length b ∙ n,
       c .before .before .put2 .kept .0 ∙ l .loop .inv .2,
-      next-part (g .src .now) i (i + 128) (omega arith) (l .loop .inv .3) (omega (arith, n), w),
+      next-part (g .src .now) i (i + 256) (omega arith) (l .loop .inv .3) (omega (arith, n), w),
     )
 
 returns : tie.Need-returns Inv-loop μ-loop
