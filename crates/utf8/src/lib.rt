@@ -1,6 +1,7 @@
 // UTF-8 by the Unicode standard: what stands at a place of a text, where its characters end, and whether it is well formed.
 ghost use mathlib.Core.Path.{_≡_};
-ghost use Prim.Native.Nat.{_≤_};
+ghost use mathlib.Core.Bool.{true};
+ghost use Prim.Native.Nat.{_≤_, _+_};
 ghost use lib.ListN.{length, drop};
 ghost use Rattle.utf8.specs.Utf8.{class, numberOf, Classes, begins, follow, stepOf, valid};
 ghost use Rattle.utf8.specs.Runs.{Stretch, Ran};
@@ -128,12 +129,51 @@ pub fn step(s: &[u8], at: usize) -> Part
     step_by(&table, s, at)
 }
 
-// Where the ASCII from here ends.
-fn plain_end(s: &[u8], from: usize) -> usize
+// The greater of two.
+fn greater(a: u8, b: u8) -> u8
+    ensures { λ r. ⌜ (a ≤ r) × (b ≤ r) ⌝ }
+{
+    if a < b {
+        return b;
+    }
+    a
+}
+
+// Whether the 64 bytes from here are all ASCII. Their greatest is found without a branch, so the compiler takes sixteen at once.
+fn plain_block(s: &[u8], at: usize) -> bool
+    requires { ⌜ at + 64 ≤ length (now s) ⌝ }
+    ensures { λ r. ⌜ (r ≡ true → Stretch (now (s .entry)) at (at + 64)) ⌝ }
+{
+    let mut m = 0;
+    let mut i = 0;
+    while i < 64 {
+        m = greater(m, s[at + i]);
+        i += 1;
+    }
+    m < 0x80
+}
+
+// Where the whole blocks of ASCII from here end.
+fn blocks_end(s: &[u8], from: usize) -> usize
     requires { ⌜ from ≤ length (now s) ⌝ }
     ensures { λ r. ⌜ Stretch (now (s .entry)) from r ⌝ }
 {
     let mut at = from;
+    while 64 <= s.len() - at {
+        if !plain_block(s, at) {
+            return at;
+        }
+        at += 64;
+    }
+    at
+}
+
+// Where the ASCII from here ends: whole blocks, then single bytes.
+fn far_end(s: &[u8], from: usize) -> usize
+    requires { ⌜ from ≤ length (now s) ⌝ }
+    ensures { λ r. ⌜ Stretch (now (s .entry)) from r ⌝ }
+{
+    let mut at = blocks_end(s, from);
     while at < s.len() {
         if s[at] >= 0x80 {
             return at;
@@ -141,6 +181,24 @@ fn plain_end(s: &[u8], from: usize) -> usize
         at += 1;
     }
     at
+}
+
+// Where the ASCII from here ends. Blocks are tried only behind 32 bytes of it: among other characters few runs of ASCII are as long.
+fn plain_end(s: &[u8], from: usize) -> usize
+    requires { ⌜ from ≤ length (now s) ⌝ }
+    ensures { λ r. ⌜ Stretch (now (s .entry)) from r ⌝ }
+{
+    if s.len() - from < 32 {
+        return far_end(s, from);
+    }
+    let mut i = 0;
+    while i < 32 {
+        if s[from + i] >= 0x80 {
+            return from + i;
+        }
+        i += 1;
+    }
+    far_end(s, from + 32)
 }
 
 // Where the characters of three bytes from here end, of the row that has most of them.
@@ -198,10 +256,15 @@ pub fn is_utf8_by(table: &[u8; 256], s: &[u8]) -> bool
     r.bad == 0
 }
 
-// Is the text well-formed UTF-8?
+// Is the text well-formed UTF-8? The table is copied only where the text is not ASCII to its end.
 pub fn is_utf8(s: &[u8]) -> bool
     ensures { λ r. ⌜ r ≡ valid (now (s .entry)) ⌝ }
 {
+    let plain = plain_end(s, 0);
+    if plain == s.len() {
+        return true;
+    }
     let table = class_table();
-    is_utf8_by(&table, s)
+    let run = run_from(&table, s, plain);
+    run.bad == 0
 }

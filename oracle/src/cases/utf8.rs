@@ -167,6 +167,15 @@ fn compare(c: &mut Compare) {
     for n in 4..=5 {
         every(n, &EDGES, |s| one(c, s, &mut out));
     }
+    // Runs of ASCII about the lengths at which they are passed in blocks, with a character or a loose byte at each place.
+    for n in 0..=200 {
+        for at in 0..=n {
+            for other in [&b""[..], b"\x80", "é".as_bytes(), "€".as_bytes()] {
+                let ascii = vec![0x7F; n];
+                one(c, &[&ascii[..at], other, &ascii[at..]].concat(), &mut out);
+            }
+        }
+    }
     for _ in 0..c.count {
         let n = c.rng.below(40);
         let s = mixed(&mut c.rng, n);
