@@ -5,9 +5,9 @@ use mathlib.Core.Path.{_≡_, refl, sym, ap, _∙_}
 use mathlib.Core.Bool.{Bool, true, false, _&&_, cond}
 use mathlib.Core.Option.{Option, none, some}
 use mathlib.Core.List.{List, [], _∷_, _++_}
-use lib.ListN.{length, take}
+use lib.ListN.{length, take, length-take}
 use lib.Seq.{take-at}
-use lib.Dec.{leb}
+use lib.Dec.{leb, eqb}
 use borrow.Author.Tests.{le-leb, lt-leb}
 use Rattle.lists.specs.Bytes.{ascii}
 use Rattle.lists.specs.Choice.{found, isSome}
@@ -17,24 +17,38 @@ use Rattle.replies.specs.declared.Refusal.{Refusal}
 use Rattle.decimal.specs.Writing.{decimal}
 use Rattle.items.specs.Items.{Item, areaBytes, parse, itemsIn}
 use Rattle.items.proofs.Area.{read-back}
-use Rattle.ape.specs.Tag.{readTag}
+use Rattle.ape.specs.Tag.{findFooter, versionAt, sizeAt, countAt, areaAt, readItems, readTag}
 use Rattle.ape.specs.Answers.{readArea, readPlan, readAnswer, readBytes}
+use Rattle.ape.specs.declared.Footer.the-variants.{At}
 use Rattle.ape.specs.declared.TagRead.{TagRead}
 use Rattle.ape.specs.declared.TagRead.the-variants.{NoTag, Items, Refused}
+use Rattle.ape.proofs.Reading.{read-long}
 use Rattle.listing.specs.Listing.{lines, listed, listing}
 use Rattle.listing.proofs.Sane.{tag-items}
 
-module _ (file : List ℕ) (h : length file ≤ 16384) where
-  area-fits : length (readArea (readTag file)) ≤ 3 * length file
-  area-fits = go (readTag file) refl
-    where
-      go : (o : Option (List Item)) → readTag file ≡ o → length (readArea o) ≤ 3 * length file
-      go none e = omega arith
-      go (some ts) e = omega (arith, tag-items file ts e .1)
+-- the items of a tag have at most three times the file's bytes
+pub area-fits : (file : List ℕ) → length (readArea (readTag file)) ≤ 3 * length file
+area-fits file = go (readTag file) refl
+  where
+    go : (o : Option (List Item)) → readTag file ≡ o → length (readArea o) ≤ 3 * length file
+    go none e = omega arith
+    go (some ts) e = omega (arith, tag-items file ts e .1)
 
-  pub read-yes : (n : ℕ) → 3 * length file ≤ n → readPlan file n ≡ yes (readTag file)
+-- and at most three times the bytes that the footer says
+pub tag-fits : (file : List ℕ) (f : ℕ) → findFooter file ≡ At f → length (readArea (readTag file)) ≤ 3 * (sizeAt file f - 32)
+unfolding readTag areaAt
+tag-fits file f e = rw e (go (eqb (versionAt file f) 2000 && leb (sizeAt file f) (f + 32)))
+  where
+    go : (b : Bool) → length (readArea (cond b (some (readItems (countAt file f) (areaAt file f))) none)) ≤ 3 * (sizeAt file f - 32)
+    go true =
+        let l : length (areaAt file f) ≤ sizeAt file f - 32 = simp length-take (omega arith) in
+        omega (arith, read-long (countAt file f) (areaAt file f))
+    go false = omega arith
+
+module _ (file : List ℕ) (h : length file ≤ 16384) where
+  pub read-yes : (n : ℕ) → length (readArea (readTag file)) ≤ n → readPlan file n ≡ yes (readTag file)
   unfolding readPlan
-  read-yes n k = rw (le-leb (length file) 16777216 (omega (arith, h)), le-leb (length (readArea (readTag file))) n (omega (arith, area-fits, k)), le-leb (length (readArea (readTag file))) 16777216 (omega (arith, area-fits, h)))
+  read-yes n k = rw (le-leb (length file) 16777216 (omega (arith, h)), le-leb (length (readArea (readTag file))) n k, le-leb (length (readArea (readTag file))) 16777216 (omega (arith, area-fits file, h)))
 
   pub short-listing : listing file ≡ listed (readTag file)
   unfolding listing

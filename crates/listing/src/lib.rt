@@ -7,7 +7,10 @@ ghost use lib.ListN.{length};
 ghost use Rattle.lists.specs.Choice.{isSome};
 ghost use Rattle.lists.specs.Write.{over, splice};
 ghost use Rattle.items.specs.Items.{Item, parse, itemsIn};
+ghost use Rattle.ape.specs.Tag.{readTag};
+ghost use Rattle.ape.specs.Answers.{readArea};
 ghost use Rattle.listing.specs.Listing as L;
+use ape::Footer;
 use ape::TagRead;
 use items::Stepped;
 
@@ -132,16 +135,27 @@ fn scratch() -> [u8; 49152]
     [0u8; 49152]
 }
 
-// Room for the items of a short file: it costs less to clear.
+// Room for the items of a short tag: it costs less to clear.
 fn small_scratch() -> [u8; 3072]
     ensures { λ r. ⌜ 3072 ≡ length r ⌝ }
 {
     [0u8; 3072]
 }
 
+// Whether the small room surely holds the items of a file's tag: three times their bytes. The footer's size counts 32 bytes of its own.
+fn is_short(file: &[u8]) -> bool
+    ensures { λ r. ⌜ (r ≡ true → length (readArea (readTag (now (file .entry)))) ≤ 3072) ⌝ }
+{
+    let found = ape::find_footer(file);
+    let Footer::At(footer) = found else {
+        return true;
+    };
+    frame::read_u32_le(file, footer + 12) <= 1056
+}
+
 // Lists the tag of a file that is not too long. The items are read into `area`.
 fn list_in(file: &[u8], area: &mut [u8], text: &mut [u8; 147473]) -> usize
-    requires { ⌜ (length (now file) ≤ 16384) × (3 * length (now file) ≤ length (now area)) ⌝ }
+    requires { ⌜ (length (now file) ≤ 16384) × (length (readArea (readTag (now file))) ≤ length (now area)) ⌝ }
     ensures { λ r. ⌜ (r ≡ length (L.listing (now (file .entry)))) × (now (text .exit) ≡ over (L.listing (now (file .entry))) (now (text .entry))) ⌝ }
 {
     let t = ape::read_ape_tag(file, area);
@@ -159,7 +173,7 @@ pub fn list_tag(file: &[u8], text: &mut [u8; 147473]) -> usize
     if replies::LISTING_LIMIT < file.len() {
         return lists::put(text, 0, b"refused=1\n");
     }
-    if file.len() <= 1024 {
+    if is_short(file) {
         let mut area = small_scratch();
         return list_in(file, &mut area, text);
     }

@@ -1,4 +1,4 @@
--- The tag is read into the lent array, which holds what any file of that length can give, and listed from there.
+-- The tag is read into the lent array, which holds its items, and listed from there.
 use borrow.Author.Needs.{needs}
 use mathlib.Core.Path.{_≡_, refl, sym, ap, _∙_}
 use mathlib.Core.Option.{Option, none, some}
@@ -47,7 +47,7 @@ back c = items-back (c .before .before .before .before .before .before .before .
 
 part-put-listed-end : tie.Need-part-put-listed-end
 part-put-listed-end c =
-    let h : c .before .before .before .t .given .0 .1 .0 ≤ length (c .before .before .before .before .before .before .before .before .before .before .before .args .area .now) = omega (arith, back (c .before .before) .2, c .before .before .before .before .before .before .before .before .before .before .before .pre .1) in
+    let h : c .before .before .before .t .given .0 .1 .0 ≤ length (c .before .before .before .before .before .before .before .before .before .before .before .args .area .now) = omega (arith, there (c .before .before) .long, ap (λ o. length (readArea o)) (there (c .before .before) .is), c .before .before .before .before .before .before .before .before .before .before .before .pre .1) in
     search needs
 
 put-listed-requires : tie.Need-put-listed-requires

@@ -7,7 +7,7 @@ use native.Mathlib.Nat.{zero-add}
 use native.Mathlib.Omega.{arith}
 use lib.ListN.{length}
 use Rattle.lists.proofs.Wrote.{at-front}
-use Rattle.listing.proofs.Tags.{long-listing}
+use Rattle.listing.proofs.Tags.{area-fits, long-listing}
 use Rattle.listing.proofs.list_tag.Statement.{statement}
 use Rattle.listing.proofs.list_tag.Tie as tie
 
@@ -21,10 +21,12 @@ returns c =
     rw (long-listing (g .file .now) (c .before .before .before .if1 .taken)) (c .put .ensures .0 ∙ zero-add (length refused), c .put .ensures .1 ∙ at-front (g .text .now) refused)
 
 in-small : tie.Need-list-in-requires
-in-small c κs = (omega (arith, c .before .before .before .before .if1 .left), omega (arith, c .before .before .before .if2 .taken, c .before .before .small-scratch .ensures))
+in-small c κs = (omega (arith, c .before .before .before .before .before .if1 .left), omega (arith, c .before .before .before .before .is-short .ensures (c .before .before .before .if2 .taken), c .before .before .small-scratch .ensures))
 
 in-any : tie.Need-list-in-requires-2
-in-any c κs = (omega (arith, c .before .before .before .before .if1 .left), omega (arith, c .before .before .before .before .if1 .left, c .before .before .scratch .ensures))
+in-any c κs =
+    let short = c .before .before .before .before .before .if1 .left in
+    (omega (arith, short), omega (arith, short, area-fits (c .before .before .before .before .before .before .before .args .file .now), c .before .before .scratch .ensures))
 
 pub list-tag-spec : {M : Type 1} → statement M
 list-tag-spec =
@@ -33,6 +35,7 @@ list-tag-spec =
     (λ c. search needs)
     (λ c κs. search needs)
     returns
+    (λ c κs. search needs)
     (λ c κs. search needs)
     (λ c. search needs)
     in-small
