@@ -3,9 +3,11 @@ ghost use mathlib.Core.Path.{_≡_};
 ghost use mathlib.Core.Bool.{true};
 ghost use Prim.Native.Nat.{_≤_, _<_, _+_, min, _-_};
 ghost use lib.Dec.{leb};
-ghost use lib.ListN.{length};
+ghost use lib.ListN.{length, drop};
+ghost use Rattle.lists.specs.Bytes.{startsWith};
 ghost use Rattle.lists.specs.Choice.{isSome};
 ghost use Rattle.lists.specs.Write.{over, splice};
+ghost use Rattle.frame.specs.Tail.{preamble};
 ghost use Rattle.utf8.specs.Utf8.{Classes};
 ghost use Rattle.lossy.specs.Write.{answer, within};
 ghost use Rattle.items.specs.Items.{areaBytes, itemBytes, parse, itemsIn};
@@ -50,6 +52,18 @@ pub struct Area {
     pub length: usize,
 }
 
+// Whether the preamble stands in `file` at `at`. Its bytes are compared four at a time, as numbers.
+fn is_preamble(file: &[u8], at: usize) -> bool
+    requires { ⌜ at + 8 ≤ length (now file) ⌝ }
+    ensures { λ r. ⌜ r ≡ startsWith preamble (drop at (now (file .entry))) ⌝ }
+{
+    let text = frame::APE_PREAMBLE;
+    if frame::read_u32_le(file, at) != frame::read_u32_le(&text, 0) {
+        return false;
+    }
+    frame::read_u32_le(file, at + 4) == frame::read_u32_le(&text, 4)
+}
+
 // The footer at EOF-32; else the one at EOF-160, before an ID3v1 block.
 pub fn find_footer(file: &[u8]) -> Footer
     ensures { λ r. ⌜ r ≡ findFooter (now (file .entry)) ⌝ }
@@ -58,14 +72,14 @@ pub fn find_footer(file: &[u8]) -> Footer
         return Footer::Nowhere;
     }
     let last = file.len() - 32;
-    if lists::starts_with(file, last, &frame::APE_PREAMBLE) {
+    if is_preamble(file, last) {
         return Footer::At(last);
     }
     if file.len() < 160 {
         return Footer::Nowhere;
     }
     let before = file.len() - 160;
-    if !lists::starts_with(file, before, &frame::APE_PREAMBLE) {
+    if !is_preamble(file, before) {
         return Footer::Nowhere;
     }
     if !frame::ends_with_id3v1(file) {

@@ -13,11 +13,11 @@ use Rattle.ape.specs.Tag.{findFooter}
 use Rattle.ape.proofs.find_footer.Statement.{statement}
 use Rattle.ape.proofs.find_footer.Tie as tie
 
-last : (c : tie.After-starts-with) → let s = c .before .before .before .before .args .file .now in c .starts-with .result ≡ startsWith preamble (drop (length s - 32) s)
-last c = c .starts-with .ensures
+last : (c : tie.After-is-preamble) → let s = c .before .before .before .args .file .now in c .is-preamble .result ≡ startsWith preamble (drop (length s - 32) s)
+last c = c .is-preamble .ensures
 
-earlier : (c : tie.After-starts-with2) → let s = c .before .before .before .before .before .before .before .before .args .file .now in c .starts-with2 .result ≡ startsWith preamble (drop (length s - 160) s)
-earlier c = c .starts-with2 .ensures
+earlier : (c : tie.After-is-preamble2) → let s = c .before .before .before .before .before .before .args .file .now in c .is-preamble2 .result ≡ startsWith preamble (drop (length s - 160) s)
+earlier c = c .is-preamble2 .ensures
 
 returns : tie.Need-returns
 unfolding findFooter standsAt
@@ -25,27 +25,31 @@ returns c = let n : length (c .before .before .args .file .now) < 160 = omega ar
 
 returns-2 : tie.Need-returns-2
 unfolding findFooter standsAt
-returns-2 c = rw (le-leb _ _ (c .before .before .before .if1 .left), ← last (c .before), c .if2 .taken)
+returns-2 c = rw (le-leb _ _ (c .before .before .if1 .left), ← last (c .before), c .if2 .taken)
 
 returns-3 : tie.Need-returns-3
 unfolding findFooter standsAt
-returns-3 c = rw (le-leb _ _ (c .before .before .before .before .if1 .left), ← last (c .before .before), c .before .if2 .left, lt-leb _ _ (c .if3 .taken))
+returns-3 c = rw (le-leb _ _ (c .before .before .before .if1 .left), ← last (c .before .before), c .before .if2 .left, lt-leb _ _ (c .if3 .taken))
 
 returns-4 : tie.Need-returns-4
 unfolding findFooter standsAt
 returns-4 c =
-    rw (le-leb _ _ (c .before .before .before .before .before .before .before .if1 .left), ← last (c .before .before .before .before .before), c .before .before .before .before .if2 .left, le-leb _ _ (c .before .before .before .if3 .left), ← earlier (c .before), not-true (c .before .starts-with2 .result) (c .if4 .taken))
+    let p = c .before in
+    let l = p .before .before .before in
+    rw (le-leb _ _ (l .before .if1 .left), ← last l, p .before .before .if2 .left, le-leb _ _ (p .before .if3 .left), ← earlier p, not-true (p .is-preamble2 .result) (c .if4 .taken))
 
 returns-5 : tie.Need-returns-5
 unfolding findFooter standsAt
 returns-5 c =
+    let p = c .before .before .before in
+    let l = p .before .before .before in
     rw (
-      le-leb _ _ (c .before .before .before .before .before .before .before .before .before .if1 .left),
-      ← last (c .before .before .before .before .before .before .before),
-      c .before .before .before .before .before .before .if2 .left,
-      le-leb _ _ (c .before .before .before .before .before .if3 .left),
-      ← earlier (c .before .before .before),
-      not-false (c .before .before .before .starts-with2 .result) (c .before .before .if4 .left),
+      le-leb _ _ (l .before .if1 .left),
+      ← last l,
+      p .before .before .if2 .left,
+      le-leb _ _ (p .before .if3 .left),
+      ← earlier p,
+      not-false (p .is-preamble2 .result) (c .before .before .if4 .left),
       ← c .before .ends-with-id3v1 .ensures,
       not-true (c .before .ends-with-id3v1 .result) (c .if5 .taken),
     )
@@ -53,13 +57,15 @@ returns-5 c =
 returns-6 : tie.Need-returns-6
 unfolding findFooter standsAt
 returns-6 c =
+    let p = c .before .before .before in
+    let l = p .before .before .before in
     rw (
-      le-leb _ _ (c .before .before .before .before .before .before .before .before .before .if1 .left),
-      ← last (c .before .before .before .before .before .before .before),
-      c .before .before .before .before .before .before .if2 .left,
-      le-leb _ _ (c .before .before .before .before .before .if3 .left),
-      ← earlier (c .before .before .before),
-      not-false (c .before .before .before .starts-with2 .result) (c .before .before .if4 .left),
+      le-leb _ _ (l .before .if1 .left),
+      ← last l,
+      p .before .before .if2 .left,
+      le-leb _ _ (p .before .if3 .left),
+      ← earlier p,
+      not-false (p .is-preamble2 .result) (c .before .before .if4 .left),
       ← c .before .ends-with-id3v1 .ensures,
       not-false (c .before .ends-with-id3v1 .result) (c .if5 .left),
     )
@@ -70,11 +76,9 @@ find-footer-spec =
     (tie.spec
     returns
     (λ c. search needs)
-    (λ c. search needs)
     (λ c κs. search needs)
     returns-2
     returns-3
-    (λ c. search needs)
     (λ c. search needs)
     (λ c κs. search needs)
     returns-4
