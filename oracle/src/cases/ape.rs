@@ -3,6 +3,7 @@
 use super::Case;
 use crate::ape::{find_ape_footer, reach, read_ape_tag, ApeItem, ApeTag};
 use crate::tools::{hex, Bench, Compare, Record, Rng};
+use std::hint::black_box;
 
 pub const CASE: Case = Case { name: "ape", record, compare, bench };
 
@@ -545,6 +546,13 @@ fn published_footer(file: &[u8]) -> Option<usize> {
     find_ape_footer(file)
 }
 
+/// A C function that only fills the two lent numbers of `zib_find_ape_footer`: what the boundary costs.
+extern "C" fn fill(_file: *const u8, length: usize, there: &mut u32, footer: &mut usize) -> u32 {
+    *there = 1;
+    *footer = length - 32;
+    0
+}
+
 fn bench(b: &mut Bench) {
     let value = "The quick brown fox jumps over the lazy dog";
     for (n, things) in [(1, "item"), (41, "items"), (256, "items")] {
@@ -576,6 +584,19 @@ fn bench(b: &mut Bench) {
             || published_footer(&file),
             || library::find_ape_footer(&file),
         );
+        if size == 4 << 10 {
+            // Unknown to the compiler, as a function of an archive is.
+            let fill = black_box(fill as extern "C" fn(*const u8, usize, &mut u32, &mut usize) -> u32);
+            b.row(
+                "no call: a C function that only fills the two lent numbers (Rust: find_ape_footer)",
+                || published_footer(&file),
+                || {
+                    let (mut there, mut footer) = (7, 7);
+                    let reply = fill(file.as_ptr(), file.len(), &mut there, &mut footer);
+                    (reply == 0 && there == 1).then_some(footer)
+                },
+            );
+        }
         b.row(
             &format!("split_ape_tag, {name} before a tag"),
             || published_parts(&file),
