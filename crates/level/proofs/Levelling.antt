@@ -10,13 +10,13 @@ use borrow.Author.Tests.{le-leb, lt-leb}
 use Rattle.lists.specs.Choice.{found}
 use Rattle.replies.specs.Refusal.{Plan, no, yes, Test, need, refusalOf, planned}
 use Rattle.replies.specs.declared.Refusal.{Refusal}
-use Rattle.replies.specs.declared.Refusal.the-variants.{FileTooLong, StepOutOfRange, NoLeftGains, NotEditable, FlagDiffers, UndoOutOfRange, TagTooLarge}
+use Rattle.replies.specs.declared.Refusal.the-variants.{FileTooLong, StepOutOfRange, NoLeftGains, NotEditable, FlagDiffers, UndoOutOfRange, TagTooLarge, NoRoom}
 use Rattle.slip.specs.Slip.{isStep}
 use Rattle.values.specs.declared.UndoValues.{UndoValues}
 use Rattle.values.specs.declared.Range.{Range}
 use Rattle.items.specs.Items.{Item}
 use Rattle.ape.specs.Tag.{replaced}
-use Rattle.ape.specs.Answers.{roomFor}
+use Rattle.ape.specs.Answers.{hasRoom, roomFor}
 use Rattle.ape_write.specs.declared.Written.{Written}
 use Rattle.ape_write.specs.declared.Written.the-variants.{Done as Wrote, Refused as Unwritten}
 use Rattle.ape_write.specs.Answers.{writtenAnswer, writtenBytes}
@@ -39,6 +39,14 @@ pub not-there : (s : List ℕ) → length s ≡ 0 → isThere s ≡ false
 not-there [] h = refl
 not-there (x ∷ s) h = absurd (omega arith)
 
+-- ---- plans
+
+same-refusal : (q r : Refusal) → _≡_ {A = Plan UndoValues} (no q) (no r) → q ≡ r
+same-refusal q r e = cc
+
+never : (r : Refusal) (u : UndoValues) → no r ≡ yes u → ⊥
+never r u e = let z : _≡_ {A = ℕ} 0 1 = cc in omega arith
+
 -- ---- a file that was written
 
 pub filed-done : (p : Plan (List ℕ)) {w : Written} {n : ℕ} (peaks : ℕ) → w ≡ writtenAnswer p → w ≡ Wrote n → Done n peaks ≡ filedAnswer p peaks
@@ -59,15 +67,26 @@ pub numbers-no : (p : Plan UndoValues) {b : Booked} {r : Refusal} → b ≡ book
 numbers-no (no s) {b} {r} e f = let z : s ≡ r = cc in rw z
 numbers-no (yes v) e f = absurd (let z : _≡_ {A = ℕ} 0 1 = cc in omega arith)
 
+planned-yes : (o : Option Refusal) (v : UndoValues) {u : UndoValues} → planned o v ≡ yes u → u ≡ v
+planned-yes none v e = cc
+planned-yes (some r) v e = absurd (let z : _≡_ {A = ℕ} 0 1 = cc in omega arith)
+
 pub numbers-are : (l : Level) (ts : List Item) {u : UndoValues} → bookedPlan l ts ≡ yes u → u ≡ booked l ts
 unfolding bookedPlan
-numbers-are l ts {u} e = go (refusalOf (need FlagDiffers (found (storedUndo ts) true (agrees (l .mode))) ∷ need UndoOutOfRange (numbersFit (booked l ts)) ∷ [])) e
-  where
-    go : (o : Option Refusal) → planned o (booked l ts) ≡ yes u → u ≡ booked l ts
-    go none q = cc
-    go (some r) q = absurd (let z : _≡_ {A = ℕ} 0 1 = cc in omega arith)
+numbers-are l ts e = planned-yes (refusalOf (need FlagDiffers (found (storedUndo ts) true (agrees (l .mode))) ∷ need UndoOutOfRange (numbersFit (booked l ts)) ∷ [])) (booked l ts) e
 
 -- ---- the last tests
+
+-- a file that is refused, or written, by the same tests as the call
+filed-no : (o : Option Refusal) (s : List ℕ) (x : Levelled) {a : LevelAnswer} {r : Refusal} (peaks : ℕ) → a ≡ filedAnswer (planned o s) peaks → a ≡ Refused r
+    → (planned o x ≡ no r) × (writtenBytes (planned o s) ≡ [])
+filed-no none s x peaks e f = absurd (let z : _≡_ {A = ℕ} 0 1 = cc in omega arith)
+filed-no (some q) s x {a} {r} peaks e f = let z : q ≡ r = cc in (rw z, refl)
+
+filed-yes : (o : Option Refusal) (s : List ℕ) (x : Levelled) {a : LevelAnswer} {n k : ℕ} (peaks : ℕ) → a ≡ filedAnswer (planned o s) peaks → a ≡ Done n k
+    → (planned o x ≡ yes x) × (a ≡ Done (length s) peaks) × (writtenBytes (planned o s) ≡ s)
+filed-yes none s x peaks e f = (refl, e, refl)
+filed-yes (some q) s x peaks e f = absurd (let z : _≡_ {A = ℕ} 0 1 = cc in omega arith)
 
 module _ (file left right : List ℕ) (l : Level) (room : ℕ) where
   -- the items that are written
@@ -82,26 +101,34 @@ module _ (file left right : List ℕ) (l : Level) (room : ℕ) where
   pub last-refused : {a : LevelAnswer} {r : Refusal} (peaks : ℕ) → a ≡ filedAnswer (tagPlan file (newItems file left right l) room) peaks → a ≡ Refused r
       → (lastPlan file left right l room ≡ no r) × (writtenBytes (tagPlan file (newItems file left right l) room) ≡ [])
   unfolding tagPlan lastPlan
-  last-refused {a} {r} peaks e f = go (refusalOf tests) e
-    where
-      go : (o : Option Refusal) → a ≡ filedAnswer (planned o (replaced file (newItems file left right l))) peaks
-          → (planned o (levelGives file left right l) ≡ no r) × (writtenBytes (planned o (replaced file (newItems file left right l))) ≡ [])
-      go none q = absurd (let z : _≡_ {A = ℕ} 0 1 = cc in omega arith)
-      go (some s) q = let z : s ≡ r = cc in (rw z, refl)
+  last-refused peaks e f = filed-no (refusalOf tests) (replaced file (newItems file left right l)) (levelGives file left right l) peaks e f
 
   pub last-done : {a : LevelAnswer} {n k : ℕ} (peaks : ℕ) → a ≡ filedAnswer (tagPlan file (newItems file left right l) room) peaks → a ≡ Done n k
       → (lastPlan file left right l room ≡ yes (levelGives file left right l)) × (a ≡ Done (length (replaced file (newItems file left right l))) peaks)
       × (writtenBytes (tagPlan file (newItems file left right l) room) ≡ replaced file (newItems file left right l))
   unfolding tagPlan lastPlan
-  last-done {a} {n} {k} peaks e f = go (refusalOf tests) e
-    where
-      go : (o : Option Refusal) → a ≡ filedAnswer (planned o (replaced file (newItems file left right l))) peaks
-          → (planned o (levelGives file left right l) ≡ yes (levelGives file left right l)) × (a ≡ Done (length (replaced file (newItems file left right l))) peaks)
-          × (writtenBytes (planned o (replaced file (newItems file left right l))) ≡ replaced file (newItems file left right l))
-      go none q = (refl, q, refl)
-      go (some s) q = absurd (let z : _≡_ {A = ℕ} 0 1 = cc in omega arith)
+  last-done peaks e f = filed-yes (refusalOf tests) (replaced file (newItems file left right l)) (levelGives file left right l) peaks e f
 
 -- ---- the tests before them
+
+-- the tests of the stored undo item come before those of the new file
+module _ (flag small fits room : Bool) (v : UndoValues) (x : Levelled) where
+  abbrev stored : Plan UndoValues
+  stored = planned (refusalOf (need FlagDiffers flag ∷ need UndoOutOfRange small ∷ [])) v
+
+  abbrev all : Plan Levelled
+  all = planned (refusalOf (need FlagDiffers flag ∷ need UndoOutOfRange small ∷ need TagTooLarge fits ∷ need NoRoom room ∷ [])) x
+
+stored-no : (flag small fits room : Bool) (v : UndoValues) (x : Levelled) {r : Refusal} → stored flag small fits room v x ≡ no r → all flag small fits room v x ≡ no r
+stored-no false small fits room v x {r} e = ap no (same-refusal FlagDiffers r e)
+stored-no true false fits room v x {r} e = ap no (same-refusal UndoOutOfRange r e)
+stored-no true true fits room v x {r} e = absurd (never r v (sym e))
+
+stored-yes : (flag small fits room : Bool) (v : UndoValues) (x : Levelled) {u : UndoValues} → stored flag small fits room v x ≡ yes u
+    → all flag small fits room v x ≡ planned (refusalOf (need TagTooLarge fits ∷ need NoRoom room ∷ [])) x
+stored-yes false small fits room v x {u} e = absurd (never FlagDiffers u e)
+stored-yes true false fits room v x {u} e = absurd (never UndoOutOfRange u e)
+stored-yes true true fits room v x e = refl
 
 module _ (file left right : List ℕ) (l : Level) (room : ℕ) where
   pub level-1 : 16777216 < length file → levelPlan file left right l room ≡ no FileTooLong
@@ -135,20 +162,16 @@ module _ (file left right : List ℕ) (l : Level) (room : ℕ) where
             abbrev small : Bool
             small = numbersFit (booked l (itemsOf file))
 
+            abbrev fits : Bool
+            fits = tagFits (newItems file left right l)
+
+            abbrev ample : Bool
+            ample = hasRoom room (length (replaced file (newItems file left right l)))
+
             pub level-booked : {r : Refusal} → bookedPlan l (itemsOf file) ≡ no r → levelPlan file left right l room ≡ no r
             unfolding levelPlan bookedPlan
-            level-booked {r} e = go flag small refl refl
-              where
-                go : (a b : Bool) → flag ≡ a → small ≡ b → levelPlan file left right l room ≡ no r
-                go false b x y = let z : FlagDiffers ≡ r = cc (rw x at e) in rw (le-leb _ _ h, s, t, g, p, x, z)
-                go true false x y = let z : UndoOutOfRange ≡ r = cc (rw (x, y) at e) in rw (le-leb _ _ h, s, t, g, p, x, y, z)
-                go true true x y = absurd (let z : _≡_ {A = ℕ} 0 1 = cc (rw (x, y) at e) in omega arith)
+            level-booked e = rw (le-leb _ _ h, s, t, g, p) (stored-no flag small fits ample (booked l (itemsOf file)) (levelGives file left right l) e)
 
             pub level-last : {u : UndoValues} → bookedPlan l (itemsOf file) ≡ yes u → levelPlan file left right l room ≡ lastPlan file left right l room
             unfolding levelPlan bookedPlan lastPlan
-            level-last {u} e = go flag small refl refl
-              where
-                go : (a b : Bool) → flag ≡ a → small ≡ b → levelPlan file left right l room ≡ lastPlan file left right l room
-                go false b x y = absurd (let z : _≡_ {A = ℕ} 0 1 = cc (rw x at e) in omega arith)
-                go true false x y = absurd (let z : _≡_ {A = ℕ} 0 1 = cc (rw (x, y) at e) in omega arith)
-                go true true x y = rw (le-leb _ _ h, s, t, g, p, x, y)
+            level-last e = rw (le-leb _ _ h, s, t, g, p) (stored-yes flag small fits ample (booked l (itemsOf file)) (levelGives file left right l) e)
