@@ -1,7 +1,7 @@
 -- Laws of `standsAt` and `tagStart`: what stands at EOF-n of a file in two parts, and where a tag starts, by the code's tests.
 use Prim.Native.Nat.{ℕ, _+_, _-_, _≤_, _<_}
 use native.Mathlib.Omega.{arith}
-use mathlib.Core.Path.{_≡_, refl, ap}
+use mathlib.Core.Path.{_≡_, refl, sym, ap, _∙_}
 use mathlib.Core.Bool.{Bool, true, false, _&&_}
 use mathlib.Core.List.{List, [], _∷_, _++_}
 use lib.ListN.{length, drop, length-append, length-drop}
@@ -69,6 +69,14 @@ module _ (f size flags : ℕ) where
   start-headed b l h =
       let e : f + 32 - (size + 32) ≡ f + 32 - size - 32 = omega arith in
       rw (le-leb 0x80000000 flags b, le-ltb (f + 32) (size + 32) (omega arith), e)
+
+-- the same of the two numbers as the code read them, where a whole footer fits
+pub start-read : (s : List ℕ) (f : ℕ) {size flags : ℕ} → 32 ≤ length s → f ≤ length s - 32 → size ≡ readU32 s (f + 12) → flags ≡ readU32 s (f + 20) → tagStart s f ≡ startOf f size flags
+start-read s f {size} h k d e =
+    start-there s f (within (length s) h k) ∙ ap (λ (n : ℕ). startOf f n (readU32 s (f + 20))) (sym d) ∙ ap (startOf f size) (sym e)
+  where
+    within : (n : ℕ) → 32 ≤ n → f ≤ n - 32 → f + 32 ≤ n
+    within n h k = omega arith
 
 -- a start lies in the file
 pub start-within : (s : List ℕ) (f a : ℕ) → tagStart s f ≡ At a → (a ≤ f + 32) × (f + 32 ≤ length s)

@@ -7,7 +7,7 @@ use borrow.Author.Needs.{needs}
 use Rattle.integers.specs.Apart.{wholeOf}
 use Rattle.frame.specs.Gain.{adjust}
 use Rattle.frame.specs.declared.GainMode.the-variants.{Saturating}
-use Rattle.frame.proofs.Gains.{adjust-zero, adjust-up, adjust-down}
+use Rattle.frame.proofs.Gains.{adjust-zero, adjust-over, adjust-under, adjust-down}
 use Rattle.frame.proofs.saturating.Statement.{statement}
 use Rattle.frame.proofs.saturating.Tie as tie
 
@@ -30,12 +30,12 @@ returns-3 c =
 returns-4 : tie.Need-returns-4
 returns-4 c =
     let g = c .before .before .before .before .args in
-    rw (c .before .before .before .if1 .left) (omega (arith, adjust-up (g .steps .by) (g .current) (omega arith)))
+    rw (c .before .before .before .if1 .left) (adjust-over (g .steps .by) (g .current) (c .before .before .if3 .left) (c .before .within-byte2 .ensures) (c .if4 .taken))
 
 returns-5 : tie.Need-returns-5
 returns-5 c =
     let g = c .before .before .before .before .args in
-    rw (c .before .before .before .if1 .left) (omega (arith, adjust-up (g .steps .by) (g .current) (omega arith)))
+    rw (c .before .before .before .if1 .left) (adjust-under (g .steps .by) (g .current) (c .before .before .if3 .left) (c .before .within-byte2 .ensures) (omega arith) (c .if4 .left))
 
 pub saturating-spec : {M : Type 1} → statement M
 saturating-spec =
