@@ -113,3 +113,32 @@ five (p ∷ q ∷ []) a b c d e n = absurd (omega arith)
 five (p ∷ q ∷ r ∷ []) a b c d e n = absurd (omega arith)
 five (p ∷ q ∷ r ∷ s ∷ []) a b c d e n = absurd (omega arith)
 five (p ∷ q ∷ r ∷ s ∷ t ∷ u ∷ m) a b c d e n = absurd (omega arith)
+
+-- ---- room for five parts one after another, from the room for all
+
+module _ (at n a b c d e : ℕ) {s : ℕ} (q : s ≡ a + b + c + d + e) (h : at + s ≤ n) where
+  pub room-1 : at + a ≤ n
+  room-1 = omega arith
+
+  module _ {i : ℕ} {j : ℕ} (x : i ≡ at + a) (y : j ≡ n) where
+    pub room-2 : i + b ≤ j
+    room-2 = omega arith
+
+    module _ {k : ℕ} {l : ℕ} (u : k ≡ i + b) (v : l ≡ j) where
+      pub room-3 : k + c ≤ l
+      room-3 = omega arith
+
+      module _ {m : ℕ} {o : ℕ} (z : m ≡ k + c) (w : o ≡ l) where
+        pub room-4 : m + d ≤ o
+        room-4 = omega arith
+
+        pub room-5 : {r t : ℕ} → r ≡ m + d → t ≡ o → r + e ≤ t
+        room-5 f g = omega arith
+
+-- none of them is larger than all
+pub each : (n a b c d e : ℕ) {s : ℕ} → s ≡ a + b + c + d + e → s ≤ n → (a ≤ n) × (b ≤ n) × (c ≤ n) × (d ≤ n) × (e ≤ n)
+each n a b c d e q h = (omega arith, omega arith, omega arith, omega arith, omega arith)
+
+-- five counts added one after another
+pub counted : (n a b c d e : ℕ) {s i j k l m : ℕ} → s ≡ a + b + c + d + e → i ≡ n + a → j ≡ i + b → k ≡ j + c → l ≡ k + d → m ≡ l + e → m ≡ n + s
+counted n a b c d e q x y z u v = omega arith
