@@ -125,8 +125,8 @@ level-spec =
     (λ c. search needs)
     level-booked-requires
     (λ c. search needs)
-    (λ c. search needs)
-    (λ c. search needs)
-    (λ c. search needs)
+    (λ c. c .before .before .before .before .before .before .level-booked .kept .1 .1 .1 .1 .0)
+    (λ c. c .before .before .before .before .before .before .level-booked .kept .1 .1 .1 .1 .1 .0)
+    (λ c. c .before .before .before .before .before .before .level-booked .kept .1 .1 .1 .1 .1 .1 .1 .1 .1 .1 .0)
     returns-6
     returns-7)

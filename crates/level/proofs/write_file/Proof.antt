@@ -29,12 +29,12 @@ write-file-spec =
     (λ c. search needs)
     (λ c. search needs)
     in-small
-    (λ c. search needs)
+    (λ c. c .before .before .before .before .write-file-in .kept .1 .1 .1 .1 .1 .1 .1 .1 .1 .1 .1 .0)
     (λ c. c .before .before .before .before .write-file-in .ensures)
     (λ c κs. search needs)
     (λ c κs. search needs)
     (λ c. search needs)
     (λ c. search needs)
     in-any
-    (λ c. search needs)
+    (λ c. c .before .before .before .before .write-file-in2 .kept .1 .1 .1 .1 .1 .1 .1 .1 .1 .1 .1 .0)
     (λ c. c .before .before .before .before .write-file-in2 .ensures))

@@ -84,7 +84,7 @@ write-file-in-spec =
     (λ c. search needs)
     part-filed-end
     filed-requires
-    (λ c. search needs)
-    (λ c. search needs)
-    (λ c. search needs)
+    (λ c. c .before .before .before .before .before .before .before .before .before .before .write-items .kept .1 .1 .1 .1 .1 .1 .1 .0)
+    (λ c. c .before .before .before .before .before .before .before .before .before .before .write-items .kept .1 .1 .1 .1 .1 .1 .1 .1 .0)
+    (λ c. c .before .before .filed .kept .1 .1 .1 .0)
     returns)
