@@ -74,6 +74,12 @@ module _ (s : List ℕ) where
       go true p = ap (λ (i : ℕ). take (size - 32) (drop i s)) (h (leb-true _ _ p))
       go false p = let n : size - 32 ≡ 0 = omega (arith, leb-false 32 size p) in rw n
 
+  -- the tag, by what the code reads of it
+  pub tag-here : (f : ℕ) (start : ℕ) {version size count : ℕ} → findFooter s ≡ At f → version ≡ versionAt s f → version ≡ 2000 → size ≡ sizeAt s f → size ≤ f + 32
+      → count ≡ countAt s f → f - start ≡ size - 32 → (32 ≤ size → start ≡ f + 32 - size) → readTag s ≡ some (readItems count (take (f - start) (drop start s)))
+  tag-here f start {version} {size} {count} at v is z h n e k =
+      tag-read f at (sym v ∙ is) (rw z at h) ∙ ap some (ap (λ (i : ℕ). readItems i (areaAt s f)) (sym n) ∙ ap (readItems count) (sym (area-part f start size (sym z) e k)))
+
   module _ (room : ℕ) where
     pub plan-long : 16777216 < length s → readPlan s room ≡ no FileTooLong
     unfolding readPlan

@@ -13,7 +13,7 @@ use Rattle.ape.specs.Tag.{findFooter, sizeAt, areaAt, readItems, readTag
 use Rattle.ape.specs.Answers.{readPlan, readAnswer, readBytes, itemsPlan}
 use Rattle.ape.specs.declared.Footer.the-variants.{At}
 use Rattle.ape.specs.declared.TagRead.the-variants.{NoTag}
-use Rattle.ape.proofs.Files.{footer-within, tag-none, tag-version, tag-long, tag-read, area-part, plan-long, plan-none, plan-some}
+use Rattle.ape.proofs.Files.{footer-within, tag-none, tag-version, tag-long, tag-here, plan-long, plan-none, plan-some}
 use Rattle.ape.proofs.read_ape_tag.Statement.{statement}
 use Rattle.ape.proofs.read_ape_tag.Tie as tie
 
@@ -28,7 +28,7 @@ returns c = let g = c .before .before .before .args in rw (plan-long (g .file .n
 returns-2 : tie.Need-returns-2
 returns-2 c =
     let g = c .before .before .before .before .before .before .args in
-    nothing (g .file .now) (g .area .now) (omega arith) (tag-none (g .file .now) (sym (c .before .before .find-footer .ensures) ∙ c .enum-told .given .1))
+    nothing (g .file .now) (g .area .now) (c .before .before .before .if1 .left) (tag-none (g .file .now) (sym (c .before .before .find-footer .ensures) ∙ c .enum-told .given .1))
 
 -- the footer that was found
 here : (c : tie.After-known-told) → findFooter (c .before .before .before .before .before .before .before .args .file .now) ≡ At (c .before .found .given .0 .0)
@@ -37,17 +37,21 @@ here c = sym (c .before .before .before .find-footer .ensures) ∙ c .before .fo
 inside : (c : tie.After-known-told) → c .before .found .given .0 .0 + 32 ≤ length (c .before .before .before .before .before .before .before .args .file .now)
 inside c = footer-within (c .before .before .before .before .before .before .before .args .file .now) (c .before .found .given .0 .0) (here c)
 
+-- the file is within the limit
+short : (c : tie.After-known-told) → length (c .before .before .before .before .before .before .before .args .file .now) ≤ 16777216
+short c = c .before .before .before .before .if1 .left
+
 returns-3 : tie.Need-returns-3
 returns-3 c =
     let k = c .before .before in
     let g = k .before .before .before .before .before .before .before .args in
-    nothing (g .file .now) (g .area .now) (omega arith) (tag-version (g .file .now) (k .before .found .given .0 .0) (here k) (λ e. c .if2 .taken (c .before .read-u32-le .ensures ∙ e)))
+    nothing (g .file .now) (g .area .now) (short k) (tag-version (g .file .now) (k .before .found .given .0 .0) (here k) (λ e. c .if2 .taken (c .before .read-u32-le .ensures ∙ e)))
 
 returns-4 : tie.Need-returns-4
 returns-4 c =
     let k = c .before .before .before .before in
     let g = k .before .before .before .before .before .before .before .args in
-    nothing (g .file .now) (g .area .now) (omega arith)
+    nothing (g .file .now) (g .area .now) (short k)
     (tag-long (g .file .now) (k .before .found .given .0 .0) (here k) (sym (c .before .before .before .read-u32-le .ensures) ∙ c .before .before .if2 .left) (omega (arith, c .before .read-u32-le2 .ensures, c .if3 .taken)))
 
 part-end : tie.Need-part-read-items-end
@@ -62,17 +66,17 @@ read-items-requires c κs =
 
 returns-5 : tie.Need-returns-5
 returns-5 c =
-    let k = c .before .before .before .before .before .before .before .before .before .before .before in
+    let i = c .before .before .before .before .before in
+    let n = i .before in
+    let z = n .before .before in
+    let k = z .before .before .before in
     let g = k .before .before .before .before .before .before .before .args in
     let s = g .file .now in
     let f = k .before .found .given .0 .0 in
-    let i = c .before .before .before .before .before .items-start .ensures in
-    let a : take (f - c .before .before .before .before .before .items-start .result) (drop (c .before .before .before .before .before .items-start .result) s) ≡ areaAt s f =
-    area-part s f (c .before .before .before .before .before .items-start .result) (c .before .before .before .before .before .before .before .before .read-u32-le2 .result) (sym (c .before .before .before .before .before .before .before .before .read-u32-le2 .ensures)) (i .1) (i .2) in
-    let t : readTag s ≡ some (readItems (c .before .before .before .before .before .before .read-u32-le3 .result) (take (f - c .before .before .before .before .before .items-start .result) (drop (c .before .before .before .before .before .items-start .result) s))) =
-    tag-read s f (here k) (sym (c .before .before .before .before .before .before .before .before .before .before .read-u32-le .ensures) ∙ c .before .before .before .before .before .before .before .before .before .if2 .left) (omega (arith, c .before .before .before .before .before .before .before .before .read-u32-le2 .ensures))
-    ∙ ap some (ap (λ (n : ℕ). readItems n (areaAt s f)) (sym (c .before .before .before .before .before .before .read-u32-le3 .ensures)) ∙ ap (readItems (c .before .before .before .before .before .before .read-u32-le3 .result)) (sym a)) in
-    rw (plan-some s (length (g .area .now)) (omega arith) _ t) (c .before .before .read-items .ensures)
+    let r = i .items-start .result in
+    let t : readTag s ≡ some (readItems (n .read-u32-le3 .result) (take (f - r) (drop r s))) =
+    tag-here s f r (here k) (z .before .before .read-u32-le .ensures) (z .before .if2 .left) (z .read-u32-le2 .ensures) (n .before .if3 .left) (n .read-u32-le3 .ensures) (i .items-start .ensures .1) (i .items-start .ensures .2) in
+    rw (plan-some s (length (g .area .now)) (short k) (readItems (n .read-u32-le3 .result) (take (f - r) (drop r s))) t) (c .before .before .read-items .ensures)
 
 pub read-ape-tag-spec : {M : Type 1} → statement M
 read-ape-tag-spec =
@@ -94,10 +98,10 @@ read-ape-tag-spec =
     (λ c. omega (arith, inside (c .before .before .before .before)))
     (λ c κs. omega (arith, inside (c .before .before .before .before)))
     (λ c. search needs)
-    (λ c κs. search needs)
-    (λ c. search needs)
-    (λ c. search needs)
+    (λ c κs. c .before .if3 .left)
+    (λ c. c .items-start .ensures .0)
+    (λ c. c .items-start .ensures .0)
     part-end
     read-items-requires
-    (λ c. search needs)
+    (λ c. c .before .before .read-items .kept .1 .1 .0)
     returns-5)
