@@ -119,6 +119,22 @@ module _ (steps : ℤ) (s : List ℕ) (a k e : ℕ) where
         let l = length-part (a + 4) (k + 1) s (omega arith) in
         (rw (bytes-moved (m .w) (m .is)) (simp length-append (omega arith)), omega (arith, stored-short _ _ steps (m .w) (m .is) .size), text-within (x .text) (m .w) (m .text))
 
+-- ---- room for an item as found, and for the parts of one with a new text of t bytes
+
+pub kept-room : (at k e n o m : ℕ) {z : ℕ} → at + 8 ≤ k → k < e → e ≤ n → z ≡ e - at → o + z ≤ m → (at ≤ e) × (e ≤ n) × (o + (e - at) ≤ m)
+kept-room at k e n o m h i j q r = (omega arith, j, omega arith)
+
+module _ (at k e n o m t : ℕ) {z : ℕ} (h : at + 8 ≤ k) (i : k < e) (j : e ≤ n) (q : z ≡ k + 1 - at + t) (r : o + z ≤ m) where
+  pub room-size : o + 4 ≤ m
+  room-size = omega arith
+
+  module _ {x : ℕ} {y : ℕ} (u : x ≡ o + 4) (v : y ≡ m) where
+    pub room-middle : (at + 4 ≤ k + 1) × (k + 1 ≤ n) × (x + (k + 1 - (at + 4)) ≤ y)
+    room-middle = (omega arith, omega arith, omega arith)
+
+    pub room-text : {b w : ℕ} → b ≡ x + (k + 1 - (at + 4)) → w ≡ y → b + (t - 0) ≤ w
+    room-text f g = omega arith
+
 -- ---- the bytes of a turn's item
 
 module _ (steps : ℤ) {s : List ℕ} {at left a b c d : ℕ} (t : Turn s at left a b c d) (small : Small s) where

@@ -1,4 +1,4 @@
-use mathlib.Core.Path.{_≡_, ap}
+use mathlib.Core.Path.{_≡_, ap, _∙_}
 use Prim.Native.Nat.{_+_, _-_, _≤_}
 use native.Mathlib.Omega.{arith}
 use borrow.Author.Needs.{needs}
@@ -13,7 +13,7 @@ use Rattle.decimal.proofs.Texts.{lent-part}
 use Rattle.area_shift.specs.Shift.{shiftedBytes}
 use Rattle.area_shift.proofs.put_item.Statement.{statement}
 use Rattle.area_shift.proofs.put_item.Tie as tie
-use Rattle.area_shift.proofs.Shifting.{bytes-moved, stays-bytes, moved-text, moved-size}
+use Rattle.area_shift.proofs.Shifting.{bytes-moved, stays-bytes, moved-text, moved-size, kept-room, room-size, room-middle, room-text}
 
 -- it stays as found
 stays : (c : tie.After-put-part-arg) → let g = c .before .before .before .before .before .before .before .before .args in
@@ -40,7 +40,7 @@ put-part-requires : tie.Need-put-part-requires
 put-part-requires c κs =
     let b = c .before .before .before .before .before .before .before .before in
     let g = b .args in
-    (omega arith, omega arith, omega (arith, b .pre, ap length (stays c), length-part (g .at) (g .end) (g .area .now) (b .pre .2)))
+    kept-room (g .at) (g .stop) (g .end) (length (g .area .now)) (g .o) (length (g .out .now)) (b .pre .0) (b .pre .1) (b .pre .2) (ap length (stays c) ∙ length-part (g .at) (g .end) (g .area .now) (b .pre .2)) (b .pre .3)
 
 returns : tie.Need-returns
 returns c =
@@ -48,20 +48,32 @@ returns c =
     rw (stays (p .before)) (p .put-part .ensures .0, p .put-part .ensures .1)
 
 put-u32-le-requires : tie.Need-put-u32-le-requires
-put-u32-le-requires c κs = omega (arith, sized c)
+put-u32-le-requires c κs =
+    let v = c .before .before .before .before .before in
+    let b = v .before .before .before .before .before in
+    let g = b .args in
+    room-size (g .at) (g .stop) (g .end) (length (g .area .now)) (g .o) (length (g .out .now)) (v .shift-stored-value .result .text .len) (b .pre .0) (b .pre .1) (b .pre .2) (sized c .0) (b .pre .3)
 
 put-part-requires-2 : tie.Need-put-part-requires-2
 put-part-requires-2 c κs =
     let p1 = c .before .before .before in
-    (omega arith, omega arith, omega (arith, sized (p1 .before), p1 .put-u32-le .ensures .0, p1 .put-u32-le .kept .0))
+    let v = p1 .before .before .before .before .before .before in
+    let b = v .before .before .before .before .before in
+    let g = b .args in
+    room-middle (g .at) (g .stop) (g .end) (length (g .area .now)) (g .o) (length (g .out .now)) (v .shift-stored-value .result .text .len) (b .pre .0) (b .pre .1) (b .pre .2) (sized (p1 .before) .0) (b .pre .3) (p1 .put-u32-le .ensures .0) (p1 .put-u32-le .kept .0)
 
 put-part-requires-3 : tie.Need-put-part-requires-3
 put-part-requires-3 c κs =
     let p2 = c .before .before .before .before in
     let p1 = p2 .before .before .before .before in
-    let k = p1 .before in
-    let z = sized k in
-    (omega arith, z .2, omega (arith, z, k .before .before .before .before .before .before .before .before .before .before .pre, p1 .put-u32-le .ensures .0, p1 .put-u32-le .kept .0, p2 .put-part2 .ensures .2, p2 .put-part2 .kept .0))
+    let v = p1 .before .before .before .before .before .before in
+    let b = v .before .before .before .before .before in
+    let g = b .args in
+    let z = sized (p1 .before) in (
+      omega arith,
+      z .2,
+      room-text (g .at) (g .stop) (g .end) (length (g .area .now)) (g .o) (length (g .out .now)) (v .shift-stored-value .result .text .len) (b .pre .0) (b .pre .1) (b .pre .2) (z .0) (b .pre .3) (p1 .put-u32-le .ensures .0) (p1 .put-u32-le .kept .0) (p2 .put-part2 .ensures .2) (p2 .put-part2 .kept .0),
+    )
 
 returns-2 : tie.Need-returns-2
 returns-2 c =
@@ -99,7 +111,7 @@ put-item-spec =
     (λ c. search needs)
     (λ c κs. search needs)
     put-part-requires
-    (λ c. search needs)
+    (λ c. c .before .before .put-part .kept .0)
     returns
     (λ c. omega (arith, sized c))
     put-u32-le-requires
@@ -107,5 +119,5 @@ put-item-spec =
     put-part-requires-2
     (λ c. search needs)
     put-part-requires-3
-    (λ c. search needs)
+    (λ c. let p3 = c .before .before in let p2 = p3 .before .before .before .before .before in p3 .put-part3 .kept .0 ∙ p2 .put-part2 .kept .0 ∙ p2 .before .before .before .before .put-u32-le .kept .0)
     returns-2)
