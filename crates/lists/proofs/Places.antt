@@ -38,6 +38,10 @@ place-here c s at i e h t = omega (arith, e, place-hit c s i h t)
 pub place-next : (c : ℕ) (s : List ℕ) (at i : ℕ) → CameTo c s at i → i < length s → (getD s i 0 ≡ c → ⊥) → CameTo c s at (i + 1)
 place-next c s at i e h t = omega (arith, e, place-miss c s i h t)
 
+-- four places from a, where the last four begin behind it or there
+pub four-within : (n a : ℕ) → 4 ≤ n → a ≤ n - 4 → (a < n) × (a + 1 < n) × (a + 1 + 1 < n) × (a + 1 + 1 + 1 < n)
+four-within n a h k = (omega arith, omega arith, omega arith, omega arith)
+
 -- ---- what a place is
 
 pub place-within : (c : ℕ) (s : List ℕ) → placeOf c s ≤ length s
