@@ -24,6 +24,31 @@ here b =
     let n : length (g .t3) ≡ 5 = search needs in
     five (g .t3) (g .track-gain .now) (g .track-peak .now) (g .album-gain .now) (g .album-peak .now) (g .algorithm .now) n
 
+-- how many items each is
+abbrev count : tie.Start → ℕ → ℕ
+count b i = length (itemAt (b .args .t3) (texts b) i)
+
+returns : tie.Need-returns
+unfolding gainKeys keys
+returns c =
+    let p5 = c .before .before in
+    let p4 = p5 .before .before .before .before .before in
+    let p3 = p4 .before .before .before .before .before in
+    let p2 = p3 .before .before .before .before .before in
+    let p1 = p2 .before .before .before .before .before in
+    let b = p1 .before .before .before .before .before .before .before .before .before in
+    let g = b .args in
+    let f = here b in
+    let w1 = next (start (g .out .now) (g .m .length) (omega (arith, b .pre))) (bytesAt (g .t3) (texts b) 0) (p1 .put-waiting .ensures .1, p1 .put-waiting .ensures .2) in
+    let w2 = next w1 (bytesAt (g .t3) (texts b) 1) (p2 .put-waiting2 .ensures .1, p2 .put-waiting2 .ensures .2) in
+    let w3 = next w2 (bytesAt (g .t3) (texts b) 2) (p3 .put-waiting3 .ensures .1, p3 .put-waiting3 .ensures .2) in
+    let w4 = next w3 (bytesAt (g .t3) (texts b) 3) (p4 .put-waiting4 .ensures .1, p4 .put-waiting4 .ensures .2) in
+    let w5 = next w4 (bytesAt (g .t3) (texts b) 4) (p5 .put-waiting5 .ensures .1, p5 .put-waiting5 .ensures .2) in (
+      counted (g .m .count) (count b 0) (count b 1) (count b 2) (count b 3) (count b 4) (f .count) (p1 .put-waiting .ensures .0) (p2 .put-waiting2 .ensures .0) (p3 .put-waiting3 .ensures .0) (p4 .put-waiting4 .ensures .0) (p5 .put-waiting5 .ensures .0),
+      w5 .ends ∙ ap (λ (l : List ℕ). g .m .length + length l) (sym (f .bytes)),
+      w5 .is ∙ ap (splice (g .out .now) (g .m .length)) (sym (f .bytes)),
+    )
+
 -- how long each is: within the limit
 abbrev size : tie.Start → ℕ → ℕ
 size b i = length (bytesAt (b .args .t3) (texts b) i)
@@ -79,30 +104,6 @@ same-length c =
     let p2 = p3 .before .before .before .before .before in
     let p1 = p2 .before .before .before .before .before in
     p5 .put-waiting5 .kept .0 ∙ p4 .put-waiting4 .kept .0 ∙ p3 .put-waiting3 .kept .0 ∙ p2 .put-waiting2 .kept .0 ∙ p1 .put-waiting .kept .0
-
-abbrev count : tie.Start → ℕ → ℕ
-count b i = length (itemAt (b .args .t3) (texts b) i)
-
-returns : tie.Need-returns
-unfolding gainKeys keys
-returns c =
-    let p5 = c .before .before in
-    let p4 = p5 .before .before .before .before .before in
-    let p3 = p4 .before .before .before .before .before in
-    let p2 = p3 .before .before .before .before .before in
-    let p1 = p2 .before .before .before .before .before in
-    let b = p1 .before .before .before .before .before .before .before .before .before in
-    let g = b .args in
-    let f = here b in
-    let w1 = next (start (g .out .now) (g .m .length) (omega (arith, b .pre))) (bytesAt (g .t3) (texts b) 0) (p1 .put-waiting .ensures .1, p1 .put-waiting .ensures .2) in
-    let w2 = next w1 (bytesAt (g .t3) (texts b) 1) (p2 .put-waiting2 .ensures .1, p2 .put-waiting2 .ensures .2) in
-    let w3 = next w2 (bytesAt (g .t3) (texts b) 2) (p3 .put-waiting3 .ensures .1, p3 .put-waiting3 .ensures .2) in
-    let w4 = next w3 (bytesAt (g .t3) (texts b) 3) (p4 .put-waiting4 .ensures .1, p4 .put-waiting4 .ensures .2) in
-    let w5 = next w4 (bytesAt (g .t3) (texts b) 4) (p5 .put-waiting5 .ensures .1, p5 .put-waiting5 .ensures .2) in (
-      counted (g .m .count) (count b 0) (count b 1) (count b 2) (count b 3) (count b 4) (f .count) (p1 .put-waiting .ensures .0) (p2 .put-waiting2 .ensures .0) (p3 .put-waiting3 .ensures .0) (p4 .put-waiting4 .ensures .0) (p5 .put-waiting5 .ensures .0),
-      w5 .ends ∙ ap (λ (l : List ℕ). g .m .length + length l) (sym (f .bytes)),
-      w5 .is ∙ ap (splice (g .out .now) (g .m .length)) (sym (f .bytes)),
-    )
 
 pub put-rest-spec : {M : Type 1} → statement M
 put-rest-spec =
