@@ -36,6 +36,28 @@ sized c =
     moved-size (g .steps .0) (g .area .now) (g .at) (g .stop) (g .end) x (v .shift-stored-value .ensures) (not-false (x .moved) (c .before .before .before .if1 .left))
     (b .pre .0) (b .pre .1) (b .pre .2)
 
+returns-2 : tie.Need-returns-2
+returns-2 c =
+    let p3 = c .before .before in
+    let p2 = p3 .before .before .before .before .before in
+    let p1 = p2 .before .before .before .before in
+    let k = p1 .before in
+    let v = k .before .before .before .before .before in
+    let b = v .before .before .before .before .before in
+    let g = b .args in
+    let s = g .area .now in
+    let x = v .shift-stored-value .result in
+    let t = x .text in
+    let m = moved-text (g .steps .0) s (g .at) (g .stop) (g .end) x (v .shift-stored-value .ensures) (not-false (x .moved) (k .before .before .before .if1 .left)) in
+    let n : t .len ≡ length (m .w) = ap (λ (t : Text). t .len) (m .text) in
+    let e2 = p2 .put-part2 .ensures in
+    let e3 = p3 .put-part3 .ensures in
+    let l = lent-part t (m .w) (m .text) in
+    let w1 = next (start (g .out .now) (g .o) (omega (arith, b .pre))) (u32le (length (m .w))) (rw n at (p1 .put-u32-le .ensures)) in
+    let w2 = next w1 (part (g .at + 4) (g .stop + 1) s) (e2 .0, e2 .1) in
+    let w3 = next w2 (m .w) (rw l at (e3 .0), rw l at (e3 .1)) in
+    rw (bytes-moved (g .steps .0) s (g .at) (g .stop) (g .end) (m .w) (m .is)) (done w3)
+
 put-part-requires : tie.Need-put-part-requires
 put-part-requires c κs =
     let b = c .before .before .before .before .before .before .before .before in
@@ -74,28 +96,6 @@ put-part-requires-3 c κs =
       z .2,
       room-text (g .at) (g .stop) (g .end) (length (g .area .now)) (g .o) (length (g .out .now)) (v .shift-stored-value .result .text .len) (b .pre .0) (b .pre .1) (b .pre .2) (z .0) (b .pre .3) (p1 .put-u32-le .ensures .0) (p1 .put-u32-le .kept .0) (p2 .put-part2 .ensures .2) (p2 .put-part2 .kept .0),
     )
-
-returns-2 : tie.Need-returns-2
-returns-2 c =
-    let p3 = c .before .before in
-    let p2 = p3 .before .before .before .before .before in
-    let p1 = p2 .before .before .before .before in
-    let k = p1 .before in
-    let v = k .before .before .before .before .before in
-    let b = v .before .before .before .before .before in
-    let g = b .args in
-    let s = g .area .now in
-    let x = v .shift-stored-value .result in
-    let t = x .text in
-    let m = moved-text (g .steps .0) s (g .at) (g .stop) (g .end) x (v .shift-stored-value .ensures) (not-false (x .moved) (k .before .before .before .if1 .left)) in
-    let n : t .len ≡ length (m .w) = ap (λ (t : Text). t .len) (m .text) in
-    let e2 = p2 .put-part2 .ensures in
-    let e3 = p3 .put-part3 .ensures in
-    let l = lent-part t (m .w) (m .text) in
-    let w1 = next (start (g .out .now) (g .o) (omega (arith, b .pre))) (u32le (length (m .w))) (rw n at (p1 .put-u32-le .ensures)) in
-    let w2 = next w1 (part (g .at + 4) (g .stop + 1) s) (e2 .0, e2 .1) in
-    let w3 = next w2 (m .w) (rw l at (e3 .0), rw l at (e3 .1)) in
-    rw (bytes-moved (g .steps .0) s (g .at) (g .stop) (g .end) (m .w) (m .is)) (done w3)
 
 pub put-item-spec : {M : Type 1} → statement M
 put-item-spec =
