@@ -58,14 +58,14 @@ pub adjust-up : (n g : ℕ) → 1 ≤ g → adjust Saturating (pos n) g ≡ min 
 adjust-up n g h = omega (arith, adjust-saturating (pos n) g h)
 
 -- a sum by the source's test: past 255, or not
-module _ (n g : ℕ) {u : ℕ} (z : g ≡ 0 → ⊥) (e : u ≡ min n 255) where
+module _ (n g : ℕ) {u : ℕ} (e : u ≡ min n 255) where
   pub adjust-over : 255 - g < u → 255 ≡ adjust Saturating (pos n) g
   adjust-over h =
       let l : 1 ≤ g = omega arith in
       omega (arith, adjust-up n g l)
 
-  pub adjust-under : g ≤ 255 → u ≤ 255 - g → g + u ≡ adjust Saturating (pos n) g
-  adjust-under b h =
+  pub adjust-under : (g ≡ 0 → ⊥) → g ≤ 255 → u ≤ 255 - g → g + u ≡ adjust Saturating (pos n) g
+  adjust-under z b h =
       let l : 1 ≤ g = omega arith in
       omega (arith, adjust-up n g l)
 

@@ -30,12 +30,12 @@ returns-3 c =
 returns-4 : tie.Need-returns-4
 returns-4 c =
     let g = c .before .before .before .before .args in
-    rw (c .before .before .before .if1 .left) (adjust-over (g .steps .by) (g .current) (c .before .before .if3 .left) (c .before .within-byte2 .ensures) (c .if4 .taken))
+    rw (c .before .before .before .if1 .left) (adjust-over (g .steps .by) (g .current) (c .before .within-byte2 .ensures) (c .if4 .taken))
 
 returns-5 : tie.Need-returns-5
 returns-5 c =
     let g = c .before .before .before .before .args in
-    rw (c .before .before .before .if1 .left) (adjust-under (g .steps .by) (g .current) (c .before .before .if3 .left) (c .before .within-byte2 .ensures) (omega arith) (c .if4 .left))
+    rw (c .before .before .before .if1 .left) (adjust-under (g .steps .by) (g .current) (c .before .within-byte2 .ensures) (c .before .before .if3 .left) (omega arith) (c .if4 .left))
 
 pub saturating-spec : {M : Type 1} → statement M
 saturating-spec =
