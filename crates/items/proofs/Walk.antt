@@ -60,13 +60,6 @@ module _ (s : List ℕ) (at : ℕ) where
       let vl : length (front (drop at s) .item .value) ≡ readU32 s at = w .value-long ∙ size-at in
       rw (lt-leb _ _ h, e) (places at (front (drop at s)) _ _ _ (w .flags-are ∙ read-drop s at 4) kl vl)
 
-  -- by the three numbers that the code reads, and its tests
-  pub step-read : {g n k : ℕ} → g ≡ readU32 s (at + 4) → n ≡ readU32 s at → k ≡ keyEnd → at < length s → k < length s → n ≤ length s - k - 1
-      → ItemAt g (at + 8) k (k + 1) (k + 1 + n) ≡ stepAny s at
-  step-read {g} {n} {k} x y z h i j =
-      let f : k + 1 + n ≤ length s = omega arith in
-      rw (x, y, z) (sym (step-item h (rw (y, z) at f)))
-
 -- ---- by what a step found
 
 abbrev pub tag : Stepped → ℕ

@@ -3,7 +3,7 @@ use mathlib.Core.Path.{_≡_, sym, ap, _∙_}
 use native.Mathlib.Omega.{arith}
 use borrow.Author.Needs.{needs}
 use Rattle.items.specs.Items.{head}
-use Rattle.items.proofs.Walk.{step-end, step-cut, step-read}
+use Rattle.items.proofs.Walk.{step-end, step-cut, step-item}
 use Rattle.items.proofs.step_any.Statement.{statement}
 use Rattle.items.proofs.step_any.Tie as tie
 
@@ -25,11 +25,11 @@ returns-4 c =
 
 returns-5 : tie.Need-returns-5
 returns-5 c =
-    let e = c .before in
-    let z = e .before .before in
+    let z = c .before .before .before in
     let u = z .before in
     let g = u .before .before .before .before .args in
-    step-read (g .area .now) (g .at) (c .read-u32-le2 .ensures) (u .read-u32-le .ensures) (z .find-byte .ensures) (u .before .before .if1 .left) (e .before .if3 .left) (e .if4 .left)
+    rw (c .read-u32-le2 .ensures, u .read-u32-le .ensures, z .find-byte .ensures)
+    (sym (step-item (g .area .now) (g .at) (omega arith) (omega arith)))
 
 pub step-any-spec : {M : Type 1} → statement M
 step-any-spec =
