@@ -2,10 +2,9 @@
 use Prim.Native.Nat.{ℕ, zero, suc, _+_, _-_, _≤_, _<_}
 use native.Mathlib.Omega.{arith}
 use mathlib.Core.Path.{_≡_, refl, sym, ap, _∙_}
-use mathlib.Core.Bool.{true}
 use mathlib.Core.List.{List, [], _∷_, _++_}
 use lib.Dec.{eqb}
-use lib.ListN.{length, getD, drop, take-append-drop, drop-of-length-le}
+use lib.ListN.{length, getD, drop, take-append-drop}
 use lib.Seq.{drop-cons, drop-drop, take-add}
 use borrow.Author.Tests.{lt-ltb, ne-eqb}
 use Rattle.utf8.specs.declared.Part.the-variants.{Good, Bad}
@@ -70,14 +69,6 @@ valid-stop s e (suc n) p = let t : Turn s e (Bad (suc n)) = bad (sym p) refl in 
 -- the text from a place is valid where no ill-formed part follows
 pub valid-ran : {s : List ℕ} {a e b : ℕ} → Ran s a e b → valid (drop a s) ≡ eqb b 0
 valid-ran {s} {a} {e} {b} x = valid-stretch (x .stretch) ∙ valid-stop s e b (x .stop)
-
--- a run of characters, and then a run from its end
-pub behind : {s : List ℕ} {a m e b : ℕ} → Stretch s a m → Ran s m e b → Ran s a e b
-behind x y = record { stretch = join x (y .stretch); inside = y .inside; stop = y .stop }
-
--- a text of characters to its end
-pub to-the-end : {s : List ℕ} {e : ℕ} → Stretch s 0 e → e ≡ length s → valid s ≡ true
-to-the-end {s} {e} x h = valid-stretch x ∙ rw (drop-of-length-le s {i = e} (omega arith)) (unfold valid validFrom in refl)
 
 pub stops : (n : ℕ) → 0 < n → Bad n ≡ stopOf n
 stops zero h = absurd (omega arith)

@@ -256,15 +256,10 @@ pub fn is_utf8_by(table: &[u8; 256], s: &[u8]) -> bool
     r.bad == 0
 }
 
-// Is the text well-formed UTF-8? The table is copied only where the text is not ASCII to its end.
+// Is the text well-formed UTF-8?
 pub fn is_utf8(s: &[u8]) -> bool
     ensures { λ r. ⌜ r ≡ valid (now (s .entry)) ⌝ }
 {
-    let plain = plain_end(s, 0);
-    if plain == s.len() {
-        return true;
-    }
     let table = class_table();
-    let run = run_from(&table, s, plain);
-    run.bad == 0
+    is_utf8_by(&table, s)
 }
