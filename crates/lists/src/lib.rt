@@ -93,18 +93,49 @@ pub fn put(out: &mut [u8], at: usize, src: &[u8]) -> usize
     at + i
 }
 
-// Writes all of `src` into `out` from `at`, a block at a time, and answers where it ends. Each block goes by way of an array that nothing else can
-// refer to: it is read whole before it is written, so the compiler moves it in one call of `memmove`, without the array.
+// `put` for 128 bytes, by way of an array that nothing else can refer to: they are read whole before they are written, so the compiler moves them
+// in registers, without the array.
+fn put_128(out: &mut [u8], at: usize, src: &[u8]) -> usize
+    requires { ⌜ (length (now src) ≡ 128) × (at + length (now src) ≤ length (now out)) ⌝ }
+    ensures { λ r. ⌜ (r ≡ at + length (now (src .entry))) × (now (out .exit) ≡ splice (now (out .entry)) at (now (src .entry))) ⌝ }
+{
+    let mut block = [0u8; 128];
+    put(&mut block, 0, src);
+    put(out, at, &block)
+}
+
+// `put` for 256 bytes likewise: too many for registers, they are moved by one call of `memmove`.
+fn put_256(out: &mut [u8], at: usize, src: &[u8]) -> usize
+    requires { ⌜ (length (now src) ≡ 256) × (at + length (now src) ≤ length (now out)) ⌝ }
+    ensures { λ r. ⌜ (r ≡ at + length (now (src .entry))) × (now (out .exit) ≡ splice (now (out .entry)) at (now (src .entry))) ⌝ }
+{
+    let mut block = [0u8; 256];
+    put(&mut block, 0, src);
+    put(out, at, &block)
+}
+
+// `put` for 256 bytes, in two halves or whole.
+fn put_block(out: &mut [u8], at: usize, src: &[u8], halves: bool) -> usize
+    requires { ⌜ (length (now src) ≡ 256) × (at + length (now src) ≤ length (now out)) ⌝ }
+    ensures { λ r. ⌜ (r ≡ at + length (now (src .entry))) × (now (out .exit) ≡ splice (now (out .entry)) at (now (src .entry))) ⌝ }
+{
+    if halves {
+        let half = put_128(out, at, &src[0..128]);
+        return put_128(out, half, &src[128..]);
+    }
+    put_256(out, at, src)
+}
+
+// Writes all of `src` into `out` from `at`, a block at a time, and answers where it ends.
 fn put_blocks(out: &mut [u8], at: usize, src: &[u8]) -> usize
     requires { ⌜ at + length (now src) ≤ length (now out) ⌝ }
     ensures { λ r. ⌜ (r ≡ at + length (now (src .entry))) × (now (out .exit) ≡ splice (now (out .entry)) at (now (src .entry))) ⌝ }
 {
-    let mut block = [0u8; 256];
+    let halves = HUGE <= src.len();
     let mut i = 0;
     while 256 <= src.len() - i {
         let j = i + 256;
-        put(&mut block, 0, &src[i..j]);
-        put(out, at + i, &block);
+        put_block(out, at + i, &src[i..j], halves);
         i = j;
     }
     put(out, at + i, &src[i..])
@@ -121,6 +152,9 @@ pub fn put_part(out: &mut [u8], at: usize, src: &[u8], from: usize, to: usize) -
 
 // From how many bytes on a part is written in blocks.
 const LONG: usize = 65536;
+
+// From how many bytes on its blocks are written in halves: such a part is larger than most caches.
+const HUGE: usize = 4194304;
 
 // `put_part` for a part that may be long.
 pub fn put_long_part(out: &mut [u8], at: usize, src: &[u8], from: usize, to: usize) -> usize
