@@ -933,7 +933,7 @@ const USUAL_KEYS: [&str; 10] = [
     "MP3GAIN_ALBUM_MINMAX",
 ];
 
-/// From item to item with nothing tested and no key's end searched, since the keys' lengths are lent: the least that any walk of an area does.
+/// From item to item with no more tested than that each size lies in the area, and no key's end searched, since the keys' lengths are lent.
 fn bare_walk(area: &[u8], keys: &[usize]) -> usize {
     keys.iter().fold(0, |at, key| at + 9 + key + u32::from_le_bytes(area[at..at + 4].try_into().unwrap()) as usize)
 }
@@ -957,7 +957,7 @@ fn bench_lengths(b: &mut Bench) {
         );
         b.row(
             &format!(
-                "no call: a bare walk over {n} items that tests nothing (Rust: get, {keys}, a tag already parsed)"
+                "no call: a bare walk over {n} items, told where each key ends (Rust: get, {keys}, a tag already parsed)"
             ),
             || tag.get(last),
             || bare_walk(&area, &lengths),
