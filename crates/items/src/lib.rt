@@ -50,10 +50,7 @@ pub fn step_any(area: &[u8], at: usize) -> Stepped
     }
     let n = frame::read_u32_le(area, at) as usize;
     let key_end = lists::find_byte(area, at + 8, 0);
-    if key_end >= area.len() {
-        return Stepped::Malformed;
-    }
-    if area.len() - key_end - 1 < n {
+    if area.len() - key_end <= n {
         return Stepped::Malformed;
     }
     Stepped::Item {

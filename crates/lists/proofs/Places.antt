@@ -38,9 +38,9 @@ place-here c s at i e h t = omega (arith, e, place-hit c s i h t)
 pub place-next : (c : ℕ) (s : List ℕ) (at i : ℕ) → CameTo c s at i → i < length s → (getD s i 0 ≡ c → ⊥) → CameTo c s at (i + 1)
 place-next c s at i e h t = omega (arith, e, place-miss c s i h t)
 
--- four places from a, where the last four begin behind it or there
-pub four-within : (n a : ℕ) → 4 ≤ n → a ≤ n - 4 → (a < n) × (a + 1 < n) × (a + 1 + 1 < n) × (a + 1 + 1 + 1 < n)
-four-within n a h k = (omega arith, omega arith, omega arith, omega arith)
+-- the same place, written otherwise
+pub place-same : (c : ℕ) (s : List ℕ) (at : ℕ) {i j : ℕ} → i ≡ j → CameTo c s at i → CameTo c s at j
+place-same c s at e h = h ∙ ap (λ (n : ℕ). n + placeOf c (drop n s)) e
 
 -- ---- what a place is
 

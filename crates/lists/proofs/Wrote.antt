@@ -95,3 +95,10 @@ module _ (s : List ℕ) (i j : ℕ) (order : i ≤ j) where
 -- what is as long as what it is written over takes its place
 pub splice-all : (b w : List ℕ) → length b ≡ length w → splice b 0 w ≡ w
 splice-all b w e = rw (zero-add, drop-of-length-le b {i = length w} (omega (arith, e))) (append-nil w)
+
+-- p is written by way of b, which is as long as p and takes it first
+pub by-way : (out : List ℕ) (at : ℕ) (b p : List ℕ) {ys zs : List ℕ} {r : ℕ} → length p ≡ length b → ys ≡ splice b 0 p
+    → (r ≡ at + length ys) × (zs ≡ splice out at ys) → (r ≡ at + length p) × (zs ≡ splice out at p)
+by-way out at b p {ys} n e y =
+    let all : ys ≡ p = e ∙ splice-all b p (sym n) in
+    (y .0 ∙ ap (λ (l : List ℕ). at + length l) all, y .1 ∙ ap (splice out at) all)

@@ -50,32 +50,31 @@ fn find_each(s: &[u8], at: usize, byte: u8) -> usize
     i
 }
 
-// The place of the first `byte` from `at`, or the end where there is none. Four bytes are read for one test of the end.
+// `a` less `b`, or 0 where that is greater.
+fn less(a: usize, b: usize) -> usize
+    ensures { λ r. ⌜ r ≡ a - b ⌝ }
+{
+    if a < b {
+        return 0;
+    }
+    a - b
+}
+
+// The place of the first `byte` from `at`, or the end where there is none. Seven bytes are read for one test of the end.
 pub fn find_byte(s: &[u8], at: usize, byte: u8) -> usize
     ensures { λ r. ⌜ r ≡ at + placeOf byte (drop at (now (s .entry))) ⌝ }
 {
-    if s.len() < 4 {
-        return find_each(s, at, byte);
-    }
-    let last = s.len() - 4;
+    let stop = less(s.len(), 6);
     let mut a = at;
-    while a <= last {
-        if s[a] == byte {
-            return a;
+    while a < stop {
+        let mut k = 0;
+        while k < 7 {
+            if s[a + k] == byte {
+                return a + k;
+            }
+            k += 1;
         }
-        let b = a + 1;
-        if s[b] == byte {
-            return b;
-        }
-        let c = b + 1;
-        if s[c] == byte {
-            return c;
-        }
-        let d = c + 1;
-        if s[d] == byte {
-            return d;
-        }
-        a = d + 1;
+        a += 7;
     }
     find_each(s, a, byte)
 }

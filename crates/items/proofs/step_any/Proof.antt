@@ -1,7 +1,10 @@
 -- Each answer is a law of the step at a place.
 use mathlib.Core.Path.{_≡_, sym, ap, _∙_}
+use Prim.Native.Nat.{_+_}
 use native.Mathlib.Omega.{arith}
 use borrow.Author.Needs.{needs}
+use lib.ListN.{drop, length-drop}
+use Rattle.lists.proofs.Places.{place-within}
 use Rattle.items.specs.Items.{head}
 use Rattle.items.proofs.Walk.{step-end, step-cut, step-item}
 use Rattle.items.proofs.step_any.Statement.{statement}
@@ -13,23 +16,24 @@ returns c = let g = c .before .before .args in sym (step-end (g .area .now) (g .
 returns-2 : tie.Need-returns-2
 returns-2 c = let g = c .before .before .before .args in sym (step-cut (g .area .now) (g .at) (omega arith) (λ w. absurd (omega arith)))
 
+-- the search ends in the area
+within : tie.Need-sub-if3
+within c =
+    let g = c .before .before .before .before .before .args in
+    omega (arith, c .find-byte .ensures, place-within 0 (drop (g .at + 8) (g .area .now)), length-drop (g .at + 8) (g .area .now))
+
 returns-3 : tie.Need-returns-3
 returns-3 c =
     let g = c .before .before .before .before .before .before .args in
-    sym (step-cut (g .area .now) (g .at) (omega arith) (λ w. absurd (omega arith)))
+    sym (step-cut (g .area .now) (g .at) (omega arith) (λ w. absurd (omega (arith, within (c .before)))))
 
 returns-4 : tie.Need-returns-4
 returns-4 c =
-    let g = c .before .before .before .before .before .before .before .args in
-    sym (step-cut (g .area .now) (g .at) (omega arith) (λ w. absurd (omega arith)))
-
-returns-5 : tie.Need-returns-5
-returns-5 c =
-    let z = c .before .before .before in
+    let z = c .before .before in
     let u = z .before in
     let g = u .before .before .before .before .args in
     rw (c .read-u32-le2 .ensures, u .read-u32-le .ensures, z .find-byte .ensures)
-    (sym (step-item (g .area .now) (g .at) (omega arith) (omega arith)))
+    (sym (step-item (g .area .now) (g .at) (omega arith) (omega (arith, within z))))
 
 pub step-any-spec : {M : Type 1} → statement M
 step-any-spec =
@@ -42,14 +46,12 @@ step-any-spec =
     (λ c. search needs)
     (λ c. search needs)
     (λ c κs. search needs)
+    within
     returns-3
-    (λ c. search needs)
-    (λ c. search needs)
-    returns-4
     (λ c. search needs)
     (λ c κs. search needs)
     (λ c. search needs)
     (λ c. search needs)
     (λ c. search needs)
     (λ c. search needs)
-    returns-5)
+    returns-4)
