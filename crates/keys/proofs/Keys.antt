@@ -9,7 +9,7 @@ use mathlib.Core.List.{List, [], _∷_, map, map-map}
 use lib.ListN.{length, getD, take, drop, length-map}
 use lib.Seq.{drop-cons}
 use lib.Dec.{leb, eqb}
-use borrow.Author.Tests.{lt-leb, le-leb, leb-true, eq-eqb, ne-eqb}
+use borrow.Author.Tests.{lt-leb, le-leb, leb-true, leb-false, eqb-true, eqb-false, eq-eqb, ne-eqb}
 use Rattle.lists.specs.Bytes.{among, all, same, placeOf}
 use Rattle.lists.specs.Choice.{found, isSome}
 use Rattle.lists.proofs.Same.{and-false, same-true, same-refl, same-unequal}
@@ -59,6 +59,51 @@ upper-twice x = go (among 97 122 x) refl
     go true e = let (l, h) = in-range 97 122 x e in rw (e, lt-leb 97 (x - 32) (omega arith))
     go false e = rw (e, e)
 
+-- what is no small letter stays; a small letter becomes its capital
+upper-below : (x : ℕ) → x < 97 → upper x ≡ x
+unfolding upper
+upper-below x h = rw (lt-leb 97 x h)
+
+upper-above : (x : ℕ) → 122 < x → upper x ≡ x
+unfolding upper
+upper-above x h = rw (le-leb 97 x (omega arith), lt-leb x 122 h)
+
+upper-small : (x : ℕ) → 97 ≤ x → x ≤ 122 → upper x ≡ x - 32
+unfolding upper
+upper-small x h k = rw (le-leb 97 x h, le-leb x 122 k)
+
+upper-least : (x : ℕ) → upper x ≤ x
+unfolding upper
+upper-least x = go (among 97 122 x)
+  where
+    go : (t : Bool) → cond t (x - 32) x ≤ x
+    go true = omega arith
+    go false = omega arith
+
+pub eqb-comm : (x y : ℕ) → eqb x y ≡ eqb y x
+eqb-comm x y = go (eqb y x) refl
+  where
+    go : (t : Bool) → eqb y x ≡ t → eqb x y ≡ eqb y x
+    go true e = eq-eqb x y (sym (eqb-true y x e)) ∙ sym e
+    go false e = ne-eqb x y (λ q. eqb-false y x e (sym q)) ∙ sym e
+
+-- two bytes with case folded, the lesser first: alike only where the greater is a small letter, and the lesser its capital
+module _ (a b : ℕ) (less : a < b) where
+  pub capital-below : b < 97 → eqb (upper a) (upper b) ≡ false
+  capital-below h = ne-eqb (upper a) (upper b) (λ e. omega (arith, e, less, upper-below b h, upper-least a))
+
+  pub capital-above : 122 < b → eqb (upper a) (upper b) ≡ false
+  capital-above h = ne-eqb (upper a) (upper b) (λ e. omega (arith, e, less, upper-above b h, upper-least a))
+
+  pub capital-small : 97 ≤ b → b ≤ 122 → eqb (upper a) (upper b) ≡ eqb a (b - 32)
+  capital-small h k = go (leb 97 a) refl
+    where
+      go : (t : Bool) → leb 97 a ≡ t → eqb (upper a) (upper b) ≡ eqb a (b - 32)
+      go true e =
+          let l : 97 ≤ a = leb-true 97 a e in
+          ne-eqb (upper a) (upper b) (λ f. omega (arith, f, less, upper-small b h k, upper-small a l (omega (arith, less, k)))) ∙ sym (ne-eqb a (b - 32) (λ f. omega (arith, f, l, k)))
+      go false e = rw (upper-small b h k, upper-below a (leb-false 97 a e))
+
 upperAll-twice : (a : List ℕ) → upperAll (upperAll a) ≡ upperAll a
 unfolding upperAll
 upperAll-twice a = map-map upper upper a ∙ ap (λ f. map f a) (fun-ext upper-twice)
@@ -103,13 +148,13 @@ key-step a b i h p q =
     let e : i ≡ suc (i - 1) = omega arith in
     ap (λ (n : ℕ). sameKey (take n a) (take n b)) e ∙ key-last a b (i - 1) (omega arith) (omega arith)
 
-pub key-alike : (a b : List ℕ) (i : ℕ) → 0 < i → i ≤ length a → i ≤ length b → upper (getD a (i - 1) 0) ≡ upper (getD b (i - 1) 0)
+pub key-alike : (a b : List ℕ) (i : ℕ) → 0 < i → i ≤ length a → i ≤ length b → eqb (upper (getD a (i - 1) 0)) (upper (getD b (i - 1) 0)) ≡ true
     → sameKey (take i a) (take i b) ≡ sameKey (take (i - 1) a) (take (i - 1) b)
-key-alike a b i h p q e = key-step a b i h p q ∙ rw (eq-eqb (upper (getD a (i - 1) 0)) (upper (getD b (i - 1) 0)) e)
+key-alike a b i h p q e = key-step a b i h p q ∙ rw e
 
-pub key-differs : (a b : List ℕ) (i : ℕ) → 0 < i → i ≤ length a → i ≤ length b → (upper (getD a (i - 1) 0) ≡ upper (getD b (i - 1) 0) → ⊥)
+pub key-differs : (a b : List ℕ) (i : ℕ) → 0 < i → i ≤ length a → i ≤ length b → eqb (upper (getD a (i - 1) 0)) (upper (getD b (i - 1) 0)) ≡ false
     → sameKey (take i a) (take i b) ≡ false
-key-differs a b i h p q n = key-step a b i h p q ∙ rw (ne-eqb (upper (getD a (i - 1) 0)) (upper (getD b (i - 1) 0)) n)
+key-differs a b i h p q e = key-step a b i h p q ∙ rw e
 
 pub key-nil : sameKey [] [] ≡ true
 unfolding sameKey same upperAll

@@ -31,3 +31,15 @@ all-step p s i h = rw (drop-cons s i 0 h, add-one)
 pub all-end : (p : ℕ → Bool) (s : List ℕ) (i : ℕ) → length s ≤ i → all p (drop i s) ≡ true
 unfolding all
 all-end p s i h = rw (drop-of-length-le s {i = i} h)
+
+-- every element passes where every one from i does: i passes, and then those behind it; or it does not
+module _ (p : ℕ → Bool) (s : List ℕ) (i : ℕ) (rest : all p s ≡ all p (drop i s)) (within : i < length s) where
+  pub all-next : p (getD s i 0) ≡ true → all p s ≡ all p (drop (i + 1) s)
+  all-next e = rest ∙ all-step p s i within ∙ rw e
+
+  pub all-not : p (getD s i 0) ≡ false → all p s ≡ false
+  all-not e = rest ∙ all-step p s i within ∙ rw e
+
+-- the same place, written otherwise
+pub all-at : (p : ℕ → Bool) (s : List ℕ) (i j : ℕ) → i ≡ j → all p s ≡ all p (drop i s) → all p s ≡ all p (drop j s)
+all-at p s i j e h = h ∙ ap (λ (n : ℕ). all p (drop n s)) e

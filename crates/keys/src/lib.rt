@@ -1,6 +1,7 @@
 // Keys of items: compared without regard to the case of ASCII letters, the eight keys of mp3gain, and the rule for a key.
 ghost use mathlib.Core.Path.{_≡_};
-ghost use Prim.Native.Nat.{_≤_, _+_};
+ghost use Prim.Native.Nat.{_≤_, _<_, _+_};
+ghost use lib.Dec.{eqb};
 ghost use lib.ListN.{length};
 ghost use Rattle.lists.specs.Bytes.{all};
 ghost use Rattle.lists.specs.Write.{splice};
@@ -86,6 +87,33 @@ pub fn upper_case(b: u8) -> u8
     b - 32
 }
 
+// Whether the lesser of two bytes is the capital of the greater.
+fn is_capital_of(lesser: u8, greater: u8) -> bool
+    requires { ⌜ lesser < greater ⌝ }
+    ensures { λ r. ⌜ r ≡ eqb (upper lesser) (upper greater) ⌝ }
+{
+    if greater < 97 {
+        return false;
+    }
+    if greater > 122 {
+        return false;
+    }
+    lesser == greater - 32
+}
+
+// Whether two bytes are equal but for the case of a letter.
+fn same_letter(a: u8, b: u8) -> bool
+    ensures { λ r. ⌜ r ≡ eqb (upper a) (upper b) ⌝ }
+{
+    if a == b {
+        return true;
+    }
+    if a < b {
+        return is_capital_of(a, b);
+    }
+    is_capital_of(b, a)
+}
+
 // Whether the two are equal but for the case of their letters. Keys often begin alike, so the last letters are compared first.
 pub fn same_key(a: &[u8], b: &[u8]) -> bool
     ensures { λ r. ⌜ r ≡ sameKey (now (a .entry)) (now (b .entry)) ⌝ }
@@ -96,10 +124,8 @@ pub fn same_key(a: &[u8], b: &[u8]) -> bool
     let mut i = a.len();
     while 0 < i {
         i -= 1;
-        if a[i] != b[i] {
-            if upper_case(a[i]) != upper_case(b[i]) {
-                return false;
-            }
+        if !same_letter(a[i], b[i]) {
+            return false;
         }
     }
     true
@@ -175,16 +201,33 @@ pub fn is_replaygain(key: &[u8]) -> bool
     is_from(key, 3)
 }
 
-// Whether every byte is printable ASCII.
-fn is_printable(s: &[u8]) -> bool
+// Whether a byte is printable ASCII.
+fn is_printable(b: u8) -> bool
+    ensures { λ r. ⌜ r ≡ printable b ⌝ }
+{
+    if b < 0x20 {
+        return false;
+    }
+    b <= 0x7E
+}
+
+// Whether every byte is. Four bytes are read for one test of the end.
+fn all_printable(s: &[u8]) -> bool
     ensures { λ r. ⌜ r ≡ all printable (now (s .entry)) ⌝ }
 {
     let mut i = 0;
-    while i < s.len() {
-        if s[i] < 0x20 {
-            return false;
+    while 4 <= s.len() - i {
+        let mut k = 0;
+        while k < 4 {
+            if !is_printable(s[i + k]) {
+                return false;
+            }
+            k += 1;
         }
-        if s[i] > 0x7E {
+        i += 4;
+    }
+    while i < s.len() {
+        if !is_printable(s[i]) {
             return false;
         }
         i += 1;
@@ -218,7 +261,7 @@ pub fn is_key(key: &[u8]) -> bool
     if key.len() > 255 {
         return false;
     }
-    if !is_printable(key) {
+    if !all_printable(key) {
         return false;
     }
     !is_reserved(key)

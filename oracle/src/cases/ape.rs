@@ -546,10 +546,10 @@ fn published_footer(file: &[u8]) -> Option<usize> {
     find_ape_footer(file)
 }
 
-/// A C function that only fills the two lent numbers of `zib_find_ape_footer`: what the boundary costs.
-extern "C" fn fill(_file: *const u8, length: usize, there: &mut u32, footer: &mut usize) -> u32 {
-    *there = 1;
-    *footer = length - 32;
+/// The Rust's search with a C face of the library's form: bytes as a pointer and a length, and the answer in lent numbers.
+extern "C" fn footer_face(file: *const u8, length: usize, there: &mut u32, footer: &mut usize) -> u32 {
+    let file = unsafe { std::slice::from_raw_parts(file, length) };
+    (*there, *footer) = find_ape_footer(file).map_or((0, 0), |at| (1, at));
     0
 }
 
@@ -584,19 +584,17 @@ fn bench(b: &mut Bench) {
             || published_footer(&file),
             || library::find_ape_footer(&file),
         );
-        if size == 4 << 10 {
-            // Unknown to the compiler, as a function of an archive is.
-            let fill = black_box(fill as extern "C" fn(*const u8, usize, &mut u32, &mut usize) -> u32);
-            b.row(
-                "no call: a C function that only fills the two lent numbers (Rust: find_ape_footer)",
-                || published_footer(&file),
-                || {
-                    let (mut there, mut footer) = (7, 7);
-                    let reply = fill(file.as_ptr(), file.len(), &mut there, &mut footer);
-                    (reply == 0 && there == 1).then_some(footer)
-                },
-            );
-        }
+        // Unknown to the compiler, as a function of an archive is.
+        let face = black_box(footer_face as extern "C" fn(*const u8, usize, &mut u32, &mut usize) -> u32);
+        b.row(
+            &format!("find_ape_footer, {name} before a tag (Rust: behind a C face too)"),
+            || {
+                let (mut there, mut footer) = (7, 7);
+                let reply = face(file.as_ptr(), file.len(), &mut there, &mut footer);
+                (reply == 0 && there == 1).then_some(footer)
+            },
+            || library::find_ape_footer(&file),
+        );
         b.row(
             &format!("split_ape_tag, {name} before a tag"),
             || published_parts(&file),

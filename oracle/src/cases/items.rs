@@ -911,12 +911,27 @@ fn bench_keys(b: &mut Bench) {
             },
             || keys.iter().filter_map(|k| library::which_key(k.as_bytes())).sum::<usize>(),
         );
+        // Unknown to the compiler, as a function of an archive is.
+        let face = black_box(which_face as extern "C" fn(*const u8, usize) -> usize);
+        b.row(
+            &format!(
+                "which_key, {n} keys, the last eight the eight keys (Rust: a search of its list, behind a C face too)"
+            ),
+            || keys.iter().map(|k| face(k.as_ptr(), k.len())).filter(|place| *place < 8).sum::<usize>(),
+            || keys.iter().filter_map(|k| library::which_key(k.as_bytes())).sum::<usize>(),
+        );
         b.row(
             &format!("is_key, {n} keys (Rust: document 01's rule)"),
             || keys.iter().filter(|k| is_key(k.as_bytes())).count(),
             || keys.iter().filter(|k| library::is_key(k.as_bytes())).count(),
         );
     }
+}
+
+/// The Rust's search of its list with a C face of the library's form: the key as a pointer and a length, and 8 for none.
+extern "C" fn which_face(key: *const u8, length: usize) -> usize {
+    let key = unsafe { std::slice::from_raw_parts(key, length) };
+    MP3GAIN_VALUE_KEYS.iter().position(|name| name.as_bytes().eq_ignore_ascii_case(key)).unwrap_or(8)
 }
 
 /// Keys of many lengths, and none but the last as long as the sought one: the Rust passes each by its length.

@@ -3,6 +3,7 @@ use mathlib.Core.Path.{_≡_, refl, ap, sym, _∙_}
 use Prim.Native.Nat.{ℕ, _≤_, _-_}
 use native.Mathlib.Omega.{arith}
 use borrow.Author.Needs.{needs}
+use borrow.Author.Tests.{not-false, not-true}
 use lib.ListN.{length, take}
 use lib.Seq.{take-length}
 use Rattle.keys.specs.Keys.{upper, sameKey}
@@ -27,26 +28,17 @@ loop-holds c =
 
 returns-2 : tie.Need-returns-2 Inv-loop μ-loop
 returns-2 c =
-    let l = c .before .before .before .before .before .before .before .before .before in
+    let l = c .before .before .before .before .before in
     let g = l .before .before .before .before .args in
-    sym (l .loop .inv .2 ∙ key-differs (g .a .now) (g .b .now) (l .loop .i) (omega arith) (omega arith) (omega arith) (λ e. c .if3 .taken (c .before .before .before .upper-case .ensures ∙ e ∙ sym (c .before .upper-case2 .ensures))))
+    sym (l .loop .inv .2 ∙ key-differs (g .a .now) (g .b .now) (l .loop .i) (omega arith) (omega arith) (omega arith) (sym (c .before .same-letter .ensures) ∙ not-true _ (c .if2 .taken)))
 
 loop-again : tie.Need-loop-again Inv-loop μ-loop
 loop-again c =
-    let l = c .before .before .before .before .before .before .before .before .before in
+    let l = c .before .before .before .before .before in
     let g = l .before .before .before .before .args in (
       l .loop .inv .0,
       omega arith,
-      l .loop .inv .2 ∙ key-alike (g .a .now) (g .b .now) (l .loop .i) (omega arith) (omega arith) (omega arith) (sym (c .before .before .before .upper-case .ensures) ∙ c .if3 .left ∙ c .before .upper-case2 .ensures),
-    )
-
-loop-again-2 : tie.Need-loop-again-2 Inv-loop μ-loop
-loop-again-2 c =
-    let l = c .before .before .before .before in
-    let g = l .before .before .before .before .args in (
-      l .loop .inv .0,
-      omega arith,
-      l .loop .inv .2 ∙ key-alike (g .a .now) (g .b .now) (l .loop .i) (omega arith) (omega arith) (omega arith) (ap upper (c .if2 .left)),
+      l .loop .inv .2 ∙ key-alike (g .a .now) (g .b .now) (l .loop .i) (omega arith) (omega arith) (omega arith) (sym (c .before .same-letter .ensures) ∙ not-false _ (c .if2 .left)),
     )
 
 returns-3 : tie.Need-returns-3 Inv-loop μ-loop
@@ -66,13 +58,8 @@ same-key-spec =
     (λ c. omega arith)
     (λ c. omega arith)
     (λ c. omega arith)
-    (λ c. omega arith)
-    (λ c κs. search needs)
-    (λ c. omega arith)
     (λ c κs. search needs)
     returns-2
     (λ c. omega arith)
     loop-again
-    (λ c. omega arith)
-    loop-again-2
     returns-3)
