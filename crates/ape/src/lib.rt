@@ -248,11 +248,11 @@ fn read_items(items: &[u8], count: usize, out: &mut [u8]) -> TagRead
     ensures { λ r. ⌜ (let plan = itemsPlan (length (now (out .entry))) (readItems count (now (items .entry))) in
         (r ≡ readAnswer plan) × (now (out .exit) ≡ over (readBytes plan) (now (out .entry)))) ⌝ }
 {
-    let table = utf8::class_table();
-    if !items_fit(&table, items, count, least(out.len(), replies::FILE_LIMIT)) {
+    let table = &utf8::class_table();
+    if !items_fit(table, items, count, least(out.len(), replies::FILE_LIMIT)) {
         return TagRead::Refused(Refusal::NoRoom);
     }
-    let a = write_items(&table, items, count, out);
+    let a = write_items(table, items, count, out);
     TagRead::Items {
         count: a.count,
         length: a.length,

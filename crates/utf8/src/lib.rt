@@ -21,7 +21,7 @@ pub struct Run {
     pub bad: usize,
 }
 
-// The table of class numbers. A call copies it once and lends it to the functions that take `table`.
+// The table of class numbers. A call sets it up once and lends it to the functions that take `table`.
 pub fn class_table() -> [u8; 256]
     ensures { λ r. ⌜ Classes r ⌝ }
 {
@@ -125,8 +125,8 @@ pub fn step_by(table: &[u8; 256], s: &[u8], at: usize) -> Part
 pub fn step(s: &[u8], at: usize) -> Part
     ensures { λ r. ⌜ r ≡ stepOf (drop at (now (s .entry))) ⌝ }
 {
-    let table = class_table();
-    step_by(&table, s, at)
+    let table = &class_table();
+    step_by(table, s, at)
 }
 
 // The greater of two.
@@ -260,6 +260,6 @@ pub fn is_utf8_by(table: &[u8; 256], s: &[u8]) -> bool
 pub fn is_utf8(s: &[u8]) -> bool
     ensures { λ r. ⌜ r ≡ valid (now (s .entry)) ⌝ }
 {
-    let table = class_table();
-    is_utf8_by(&table, s)
+    let table = &class_table();
+    is_utf8_by(table, s)
 }

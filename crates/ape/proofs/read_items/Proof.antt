@@ -30,16 +30,16 @@ returns c =
 
 write-items-requires : tie.Need-write-items-requires
 write-items-requires c κs =
-    let p = c .before .before .before in
-    let b = c .before .before .before .before .before .before .before .before .before in
-    let t = tested p true (not-false (p .items-fit .result) (c .before .before .if1 .left)) in
-    (c .before .before .before .before .before .before .class-table .ensures, b .pre, leb-true _ _ (and-eq-true-iff _ _ .0 t .0))
+    let p = c .before .before in
+    let b = c .before .before .before .before .before .before .before .before in
+    let t = tested p true (not-false (p .items-fit .result) (c .before .if1 .left)) in
+    (c .before .before .before .before .before .class-table .ensures, b .pre, leb-true _ _ (and-eq-true-iff _ _ .0 t .0))
 
 returns-2 : tie.Need-returns-2
 returns-2 c =
-    let p = c .before .before .before .before .before .before in
+    let p = c .before .before .before .before .before in
     let w = c .before .before .write-items .ensures in
-    rw (tested p true (not-false (p .items-fit .result) (c .before .before .before .before .before .if1 .left)), w .0, w .1) (refl, w .2)
+    rw (tested p true (not-false (p .items-fit .result) (c .before .before .before .before .if1 .left)), w .0, w .1) (refl, w .2)
 
 pub read-items-spec : {M : Type 1} → statement M
 read-items-spec =

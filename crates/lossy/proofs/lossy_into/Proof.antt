@@ -18,17 +18,17 @@ returns c =
     refused (g .out .now) (lossy (g .s .now)) h
 
 -- three times the text is enough
-ample : (p : tie.Then2) → length (lossy (p .before .before .before .before .before .args .s .now)) ≤ length (p .before .before .before .before .before .args .out .now)
-ample p = omega (arith, length-lossy (p .before .before .before .before .before .args .s .now))
+ample : (p : tie.Then2) → length (lossy (p .before .before .before .before .before .before .args .s .now)) ≤ length (p .before .before .before .before .before .before .args .out .now)
+ample p = omega (arith, length-lossy (p .before .before .before .before .before .before .args .s .now))
 
 lossy-put-requires : tie.Need-lossy-put-requires
-lossy-put-requires c κs = (c .before .before .before .class-table .ensures, omega (arith, ample (c .before .before)))
+lossy-put-requires c κs = (c .before .before .before .class-table .ensures, omega (arith, ample (c .before)))
 
 returns-2 : tie.Need-returns-2
 returns-2 c =
     let w = c .before .before in
     let g = w .before .before .before .before .before .before .before .before .args in
-    converted (g .out .now) (lossy (g .s .now)) (ample (w .before .before .before)) (w .lossy-put .ensures)
+    converted (g .out .now) (lossy (g .s .now)) (ample (w .before .before)) (w .lossy-put .ensures)
 
 returns-3 : tie.Need-returns-3
 returns-3 c =
@@ -41,23 +41,23 @@ returns-3 c =
 returns-4 : tie.Need-returns-4
 returns-4 c =
     let p = c .before .before in
-    let g = p .before .before .before .before .before .before .before .before .before .before .args in
+    let g = p .before .before .before .before .before .before .before .before .before .args in
     refused (g .out .now) (lossy (g .s .now)) (had-none (lossy (g .s .now)) (length (g .out .now)) (p .lossy-within .ensures) (c .enum-told2 .given .1))
 
-asked : (c : tie.After-enum-told) → length (lossy (c .before .before .before .before .before .before .before .before .before .before .before .before .args .s .now)) ≤ length (c .before .before .before .before .before .before .before .before .before .before .before .before .args .out .now)
+asked : (c : tie.After-enum-told) → length (lossy (c .before .before .before .before .before .before .before .before .before .before .before .args .s .now)) ≤ length (c .before .before .before .before .before .before .before .before .before .before .before .args .out .now)
 asked c =
     let p = c .before .before in
-    let g = p .before .before .before .before .before .before .before .before .before .before .args in
+    let g = p .before .before .before .before .before .before .before .before .before .args in
     had-room (lossy (g .s .now)) (length (g .out .now)) (p .lossy-within .ensures) (c .enum-told .given .1)
 
 lossy-put-requires-2 : tie.Need-lossy-put-requires-2
-lossy-put-requires-2 c κs = (c .before .before .before .before .before .before .before .before .before .before .class-table .ensures, omega (arith, asked (c .before .before)))
+lossy-put-requires-2 c κs = (c .before .before .before .before .before .before .before .before .class-table .ensures, omega (arith, asked (c .before)))
 
 returns-5 : tie.Need-returns-5
 returns-5 c =
     let w = c .before .before in
-    let g = w .before .before .before .before .before .before .before .before .before .before .before .before .before .before .before .args in
-    converted (g .out .now) (lossy (g .s .now)) (asked (w .before .before .before)) (w .lossy-put2 .ensures)
+    let g = w .before .before .before .before .before .before .before .before .before .before .before .before .before .args in
+    converted (g .out .now) (lossy (g .s .now)) (asked (w .before .before)) (w .lossy-put2 .ensures)
 
 pub lossy-into-spec : {M : Type 1} → statement M
 lossy-into-spec =
