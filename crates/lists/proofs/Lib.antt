@@ -2,3 +2,4 @@ pub mod Same
 pub mod Places
 pub mod Wrote
 pub mod Numbers
+pub mod Halves

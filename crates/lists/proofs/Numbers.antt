@@ -2,10 +2,10 @@
 use Prim.Native.Nat.{ℕ, _+_, _*_, _/_, _%_, _≤_, _<_}
 use native.Mathlib.Omega.{arith}
 use native.Mathlib.Nat.{add-assoc}
-use mathlib.Core.Path.{_≡_, refl, sym, ap, _∙_}
+use mathlib.Core.Path.{_≡_, sym, ap, _∙_}
 use mathlib.Core.List.{List, [], _∷_, _++_}
 use lib.ListN.{length, drop, getD}
-use lib.Seq.{drop-cons, drop-at, getD-drop}
+use lib.Seq.{drop-cons, getD-drop}
 use Rattle.lists.specs.Bytes.{Small}
 use Rattle.lists.specs.Le.{u32le, readU32}
 
@@ -14,12 +14,6 @@ read-drop s at i = simp (getD-drop, add-assoc)
 
 pub read-here : (n : ℕ) (s : List ℕ) → n < 4294967296 → readU32 (u32le n ++ s) 0 ≡ n
 read-here n s h = omega arith
-
--- wherever it stands
-pub read-there : (a s : List ℕ) (n i : ℕ) → length a ≡ i → n < 4294967296 → readU32 (a ++ (u32le n ++ s)) i ≡ n
-read-there a s n i l h =
-    let z : i + 0 ≡ i = omega arith in
-    ap (readU32 (a ++ (u32le n ++ s))) (sym z) ∙ sym (read-drop (a ++ (u32le n ++ s)) i 0) ∙ ap (λ (r : List ℕ). readU32 r 0) (drop-at a (u32le n ++ s) i l) ∙ read-here n s h
 
 four : (a b c d : ℕ) → a < 256 → b < 256 → c < 256 → d < 256 → u32le (a + b * 256 + c * 65536 + d * 16777216) ≡ a ∷ b ∷ c ∷ d ∷ []
 four a b c d p q r t =

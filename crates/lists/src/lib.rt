@@ -50,7 +50,7 @@ fn find_each(s: &[u8], at: usize, byte: u8) -> usize
     i
 }
 
-// `a` less `b`, or 0 where that is greater.
+// `a` less `b`, or 0 where `b` is greater.
 fn less(a: usize, b: usize) -> usize
     ensures { λ r. ⌜ r ≡ a - b ⌝ }
 {
@@ -92,52 +92,48 @@ pub fn put(out: &mut [u8], at: usize, src: &[u8]) -> usize
     at + i
 }
 
-// `put` for 128 bytes, by way of an array that nothing else can refer to: they are read whole before they are written, so the compiler moves them
-// in registers, without the array.
-fn put_128(out: &mut [u8], at: usize, src: &[u8]) -> usize
-    requires { ⌜ (length (now src) ≡ 128) × (at + length (now src) ≤ length (now out)) ⌝ }
+// `put` for sixteen bytes, by way of an array that nothing else can refer to: they are read whole before they are written, so the compiler moves
+// them in a register, without the array.
+fn put_16(out: &mut [u8], at: usize, src: &[u8]) -> usize
+    requires { ⌜ (length (now src) ≡ 16) × (at + length (now src) ≤ length (now out)) ⌝ }
     ensures { λ r. ⌜ (r ≡ at + length (now (src .entry))) × (now (out .exit) ≡ splice (now (out .entry)) at (now (src .entry))) ⌝ }
 {
-    let mut block = [0u8; 128];
+    let mut block = [0u8; 16];
     put(&mut block, 0, src);
     put(out, at, &block)
 }
 
-// `put` for 256 bytes likewise: too many for registers, they are moved by one call of `memmove`.
-fn put_256(out: &mut [u8], at: usize, src: &[u8]) -> usize
-    requires { ⌜ (length (now src) ≡ 256) × (at + length (now src) ≤ length (now out)) ⌝ }
-    ensures { λ r. ⌜ (r ≡ at + length (now (src .entry))) × (now (out .exit) ≡ splice (now (out .entry)) at (now (src .entry))) ⌝ }
-{
-    let mut block = [0u8; 256];
-    put(&mut block, 0, src);
-    put(out, at, &block)
-}
-
-// `put` for 256 bytes, in two halves or whole.
-fn put_block(out: &mut [u8], at: usize, src: &[u8], halves: bool) -> usize
-    requires { ⌜ (length (now src) ≡ 256) × (at + length (now src) ≤ length (now out)) ⌝ }
-    ensures { λ r. ⌜ (r ≡ at + length (now (src .entry))) × (now (out .exit) ≡ splice (now (out .entry)) at (now (src .entry))) ⌝ }
-{
-    if halves {
-        let half = put_128(out, at, &src[0..128]);
-        return put_128(out, half, &src[128..]);
-    }
-    put_256(out, at, src)
-}
-
-// Writes all of `src` into `out` from `at`, a block at a time, and answers where it ends.
+// Writes all of `src` into `out` from `at`, sixteen bytes at a time, and answers where it ends.
 fn put_blocks(out: &mut [u8], at: usize, src: &[u8]) -> usize
     requires { ⌜ at + length (now src) ≤ length (now out) ⌝ }
     ensures { λ r. ⌜ (r ≡ at + length (now (src .entry))) × (now (out .exit) ≡ splice (now (out .entry)) at (now (src .entry))) ⌝ }
 {
-    let halves = HUGE <= src.len();
     let mut i = 0;
-    while 256 <= src.len() - i {
-        let j = i + 256;
-        put_block(out, at + i, &src[i..j], halves);
+    while 16 <= src.len() - i {
+        let j = i + 16;
+        put_16(out, at + i, &src[i..j]);
         i = j;
     }
     put(out, at + i, &src[i..])
+}
+
+// The same, a kibibyte of one half and a kibibyte of the other in turn: a machine reads ahead at both places.
+fn put_halves(out: &mut [u8], at: usize, src: &[u8]) -> usize
+    requires { ⌜ at + length (now src) ≤ length (now out) ⌝ }
+    ensures { λ r. ⌜ (r ≡ at + length (now (src .entry))) × (now (out .exit) ≡ splice (now (out .entry)) at (now (src .entry))) ⌝ }
+{
+    let n = src.len() / 2048;
+    let half = n * 1024;
+    let mut k = 0;
+    while k < n {
+        let i = k * 1024;
+        put_blocks(out, at + i, &src[i..i + 1024]);
+        let j = half + i;
+        put_blocks(out, at + j, &src[j..j + 1024]);
+        k += 1;
+    }
+    let both = half + half;
+    put_blocks(out, at + both, &src[both..])
 }
 
 // Writes the part of `src` between two places into `out` from `at`, and answers where it ends.
@@ -152,8 +148,8 @@ pub fn put_part(out: &mut [u8], at: usize, src: &[u8], from: usize, to: usize) -
 // From how many bytes on a part is written in blocks.
 const LONG: usize = 65536;
 
-// From how many bytes on its blocks are written in halves: such a part is larger than most caches.
-const HUGE: usize = 4194304;
+// From how many bytes on it is written by halves: such a part is larger than most caches.
+const HUGE: usize = 6291456;
 
 // `put_part` for a part that may be long.
 pub fn put_long_part(out: &mut [u8], at: usize, src: &[u8], from: usize, to: usize) -> usize
@@ -164,7 +160,11 @@ pub fn put_long_part(out: &mut [u8], at: usize, src: &[u8], from: usize, to: usi
     if to - from < LONG {
         return put_part(out, at, src, from, to);
     }
-    put_blocks(out, at, &src[from..to])
+    let long = &src[from..to];
+    if long.len() < HUGE {
+        return put_blocks(out, at, long);
+    }
+    put_halves(out, at, long)
 }
 
 // Writes the four bytes of `x` into `out` from `at`, the least first.

@@ -1,6 +1,6 @@
 -- The invariant: the first such byte from at is the first from i.
-use mathlib.Core.Path.{_≡_, refl}
-use Prim.Native.Nat.{_+_, _-_}
+use mathlib.Core.Path.{refl}
+use Prim.Native.Nat.{_-_}
 use native.Mathlib.Omega.{arith}
 use lib.ListN.{length}
 use Rattle.lists.proofs.Places.{CameTo, place-here, place-next, place-end}

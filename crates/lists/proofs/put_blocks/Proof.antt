@@ -13,10 +13,10 @@ use Rattle.lists.proofs.put_blocks.Statement.{statement}
 use Rattle.lists.proofs.put_blocks.Tie as tie
 
 abbrev Inv-loop : tie.InvT-loop
-Inv-loop out₀ at src halves i₀ out i = (i ≤ length src) × (length out ≡ length out₀) × Wrote out₀ at (take i src) (at + i) out
+Inv-loop out₀ at src i₀ out i = (i ≤ length src) × (length out ≡ length out₀) × Wrote out₀ at (take i src) (at + i) out
 
 abbrev μ-loop : tie.MeasureT-loop
-μ-loop out₀ at src halves i₀ out i = length src - i
+μ-loop out₀ at src i₀ out i = length src - i
 
 loop-holds : tie.Need-loop-holds Inv-loop μ-loop
 loop-holds c =
@@ -25,14 +25,14 @@ loop-holds c =
 
 -- a whole block is left
 left-over : (c : tie.In-loop Inv-loop μ-loop) → let l = c .before in let s = l .before .before .before .args .src .now in
-    length (part (l .loop .i) (l .loop .i + 256) s) ≡ 256
+    length (part (l .loop .i) (l .loop .i + 16) s) ≡ 16
 left-over c =
     let l = c .before in
     let i = l .loop .i in
-    omega (arith, length-part i (i + 256) (l .before .before .before .args .src .now) (omega (arith, c .loop-test .taken, l .loop .inv .0)))
+    omega (arith, length-part i (i + 16) (l .before .before .before .args .src .now) (omega (arith, c .loop-test .taken, l .loop .inv .0)))
 
-put-block-requires : tie.Need-put-block-requires Inv-loop μ-loop
-put-block-requires c κs =
+put-16-requires : tie.Need-put-16-requires Inv-loop μ-loop
+put-16-requires c κs =
     let t = c .before .before in
     let l = t .before in
     let n = left-over t in
@@ -45,8 +45,8 @@ loop-again c =
     let l = t .before in
     let i = l .loop .i in (
       omega (arith, t .loop-test .taken, l .loop .inv .0),
-      p .put-block .kept .0 ∙ l .loop .inv .1,
-      next-part (l .before .before .before .args .src .now) i (i + 256) (omega arith) (l .loop .inv .2) (omega (arith, left-over t), p .put-block .ensures .1),
+      p .put-16 .kept .0 ∙ l .loop .inv .1,
+      next-part (l .before .before .before .args .src .now) i (i + 16) (omega arith) (l .loop .inv .2) (omega (arith, left-over t), p .put-16 .ensures .1),
     )
 
 returns : tie.Need-returns Inv-loop μ-loop
@@ -71,7 +71,7 @@ put-blocks-spec =
     (λ c. omega arith)
     (λ c. omega arith)
     (λ c. omega arith)
-    put-block-requires
+    put-16-requires
     (λ c. omega arith)
     loop-again
     (λ c. omega arith)

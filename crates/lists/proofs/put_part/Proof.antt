@@ -1,10 +1,5 @@
-use mathlib.Core.Path.{_≡_, ap, _∙_}
-use Prim.Native.Nat.{ℕ, _+_, _-_, _≤_}
-use mathlib.Core.List.{List}
 use native.Mathlib.Omega.{arith}
 use borrow.Author.Needs.{needs}
-use lib.ListN.{length}
-use Rattle.lists.specs.Write.{part}
 use Rattle.lists.proofs.Places.{length-part}
 use Rattle.lists.proofs.put_part.Statement.{statement}
 use Rattle.lists.proofs.put_part.Tie as tie
