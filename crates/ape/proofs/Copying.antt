@@ -1,14 +1,14 @@
 -- A loop that writes the items that are read, one after another.
-use Prim.Native.Nat.{ℕ, suc, _+_, _-_, _≤_, _<_}
+use Prim.Native.Nat.{ℕ, _+_, _-_, _≤_}
 use native.Mathlib.Omega.{arith}
 use native.Mathlib.Nat.{zero-add}
-use mathlib.Core.Path.{_≡_, refl, sym, ap, _∙_}
+use mathlib.Core.Path.{_≡_, refl, _∙_}
 use mathlib.Core.List.{List, [], _∷_, _++_, append-assoc, append-nil}
 use lib.ListN.{length, drop, length-append}
 use Rattle.lists.specs.Write.{over, splice, part}
 use Rattle.lists.proofs.Wrote.{Wrote, start, next, from-start}
 use Rattle.items.specs.Items.{Item, itemBytes, areaBytes}
-use Rattle.items.proofs.Area.{area-append, length-item, length-area}
+use Rattle.items.proofs.Area.{area-append, length-item}
 use Rattle.ape.specs.Tag.{converted, readItems}
 use Rattle.ape.proofs.Reading.{Turn}
 

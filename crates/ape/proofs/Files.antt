@@ -1,21 +1,20 @@
 -- Laws of files: where a footer stands, and what reading answers, by the tests of the code.
-use Prim.Native.Nat.{ℕ, zero, suc, _+_, _-_, _≤_, _<_}
+use Prim.Native.Nat.{ℕ, _+_, _-_, _≤_, _<_}
 use native.Mathlib.Omega.{arith}
 use mathlib.Core.Path.{_≡_, refl, sym, ap, _∙_}
 use mathlib.Core.Bool.{Bool, true, false, _&&_, cond, true≢false}
-use mathlib.Core.Option.{Option, none, some}
-use mathlib.Core.List.{List, []}
+use mathlib.Core.Option.{none, some}
+use mathlib.Core.List.{List}
 use lib.ListN.{length, take, drop}
-use lib.Dec.{leb, eqb}
+use lib.Dec.{leb}
 use borrow.Author.Tests.{leb-true, leb-false, le-leb, lt-leb, eq-eqb, ne-eqb}
 use Rattle.lists.specs.Bytes.{startsWith}
-use Rattle.replies.specs.Refusal.{Plan, no, yes}
+use Rattle.replies.specs.Refusal.{no, yes}
 use Rattle.replies.specs.declared.Refusal.the-variants.{FileTooLong}
 use Rattle.frame.specs.Tail.{preamble, id3v1Mark, standsAt}
 use Rattle.items.specs.Items.{Item}
-use Rattle.ape.specs.Tag.{blockBytes, findFooter, footed, versionAt, sizeAt, countAt, areaAt, readItems, readTag}
+use Rattle.ape.specs.Tag.{blockBytes, findFooter, versionAt, sizeAt, countAt, areaAt, readItems, readTag}
 use Rattle.ape.specs.Answers.{itemsPlan, readPlan}
-use Rattle.ape.specs.declared.Footer.{Footer}
 use Rattle.ape.specs.declared.Footer.the-variants.{At, Nowhere}
 
 pub length-block : (size count flags : ℕ) → length (blockBytes size count flags) ≡ 32

@@ -1,21 +1,20 @@
 -- Laws of `readItems`: one step after another, and how long what is read can be.
-use Prim.Native.Nat.{ℕ, zero, suc, _+_, _-_, _*_, _≤_, _<_}
+use Prim.Native.Nat.{ℕ, zero, suc, _-_, _*_, _≤_, _<_}
 use native.Mathlib.Omega.{arith}
-use mathlib.Core.Path.{_≡_, refl, sym, ap, _∙_}
+use mathlib.Core.Path.{_≡_, refl, ap, _∙_}
 use mathlib.Core.Logic.{_⊎_}
 use mathlib.Core.Option.{Option, none, some}
-use mathlib.Core.List.{List, [], _∷_, _++_}
+use mathlib.Core.List.{List, [], _∷_}
 use lib.ListN.{length, drop, length-drop}
 use Rattle.lists.specs.Choice.{found}
 use Rattle.lists.specs.Write.{part}
-use Rattle.lossy.specs.Lossy.{lossy}
 use Rattle.lossy.proofs.Sizes.{length-lossy}
-use Rattle.items.specs.Items.{Item, Head, head, areaBytes, sizeOf}
+use Rattle.items.specs.Items.{Head, head, areaBytes, sizeOf}
 use Rattle.items.specs.Answers.{stepAny}
 use Rattle.items.specs.declared.Stepped.{Stepped}
 use Rattle.items.specs.declared.Stepped.the-variants.{Item as ItemAt}
 use Rattle.items.proofs.Area.{whole, length-area}
-use Rattle.items.proofs.Walk.{any, Taken, taken, tag, stopped, key-part}
+use Rattle.items.proofs.Walk.{any, taken, tag, stopped, key-part}
 use Rattle.items.proofs.Loops.{value-part}
 use Rattle.ape.specs.Tag.{converted, readItems}
 

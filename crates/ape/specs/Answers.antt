@@ -5,10 +5,8 @@ use mathlib.Core.Option.{Option, none, some}
 use mathlib.Core.List.{List, [], _∷_}
 use lib.ListN.{length}
 use lib.Dec.{leb}
-use Rattle.lists.specs.Choice.{found}
 use Rattle.replies.specs.Limits.{fileLimit}
 use Rattle.replies.specs.Refusal.{Test, need, refusalOf, Plan, no, yes, planned}
-use Rattle.replies.specs.declared.Refusal.{Refusal}
 use Rattle.replies.specs.declared.Refusal.the-variants.{FileTooLong, NoRoom}
 use Rattle.items.specs.Items.{Item, areaBytes}
 use Rattle.ape.specs.Tag.{findFooter, footed, readTag}

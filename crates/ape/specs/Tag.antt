@@ -1,6 +1,6 @@
 -- Tags in files: the APEv2 specification's layout, and document 01's "Footer and tail", "Item area, UTF-8 and reading" and "Editing and writing".
 use Prim.Native.Nat.{ℕ, zero, suc, _+_, _-_}
-use mathlib.Core.Bool.{Bool, _&&_, cond}
+use mathlib.Core.Bool.{_&&_, cond}
 use mathlib.Core.Option.{Option, none, some}
 use mathlib.Core.List.{List, [], _∷_, _++_}
 use lib.ListN.{length, take, drop}
@@ -11,7 +11,7 @@ use Rattle.frame.specs.Tail.{preamble, standsAt, endsWithId3v1, tagStart}
 use Rattle.frame.specs.declared.TagStart.{TagStart}
 use Rattle.frame.specs.declared.TagStart.the-variants.{At as StartAt, Nowhere as NoStart}
 use Rattle.lossy.specs.Lossy.{lossy}
-use Rattle.items.specs.Items.{Item, Head, areaBytes, head}
+use Rattle.items.specs.Items.{Item, areaBytes, head}
 use Rattle.ape.specs.declared.Footer.{Footer}
 use Rattle.ape.specs.declared.Footer.the-variants.{At, Nowhere}
 

@@ -5,13 +5,12 @@ ghost use Prim.Native.Nat.{_≤_, _<_, _+_, min, _-_};
 ghost use lib.Dec.{leb};
 ghost use lib.ListN.{length, drop};
 ghost use Rattle.lists.specs.Bytes.{startsWith};
-ghost use Rattle.lists.specs.Choice.{isSome};
 ghost use Rattle.lists.specs.Write.{over, splice};
 ghost use Rattle.frame.specs.Tail.{preamble};
 ghost use Rattle.utf8.specs.Utf8.{Classes};
 ghost use Rattle.lossy.specs.Write.{answer, within};
-ghost use Rattle.items.specs.Items.{areaBytes, itemBytes, parse, itemsIn};
-ghost use Rattle.ape.specs.Tag.{findFooter, blockBytes, tagBytes, converted, readItems};
+ghost use Rattle.items.specs.Items.{areaBytes, itemBytes};
+ghost use Rattle.ape.specs.Tag.{findFooter, converted, readItems};
 ghost use Rattle.ape.specs.Answers.{footerPlan, footerAnswer, measuredAs, itemsPlan, readPlan, readAnswer, readBytes};
 use frame::TagStart;
 use items::Stepped;
@@ -248,11 +247,11 @@ fn read_items(items: &[u8], count: usize, out: &mut [u8]) -> TagRead
     ensures { λ r. ⌜ (let plan = itemsPlan (length (now (out .entry))) (readItems count (now (items .entry))) in
         (r ≡ readAnswer plan) × (now (out .exit) ≡ over (readBytes plan) (now (out .entry)))) ⌝ }
 {
-    let table = &utf8::class_table();
-    if !items_fit(table, items, count, least(out.len(), replies::FILE_LIMIT)) {
+    let table = utf8::table::CLASS;
+    if !items_fit(&table, items, count, least(out.len(), replies::FILE_LIMIT)) {
         return TagRead::Refused(Refusal::NoRoom);
     }
-    let a = write_items(table, items, count, out);
+    let a = write_items(&table, items, count, out);
     TagRead::Items {
         count: a.count,
         length: a.length,

@@ -1,9 +1,8 @@
 -- Laws of `allValid`, one item after another.
-use mathlib.Core.Path.{_≡_, refl, sym, ap, _∙_}
-use mathlib.Core.Bool.{Bool, true, false, _&&_, cond, true≢false}
+use mathlib.Core.Path.{_≡_, refl, sym}
+use mathlib.Core.Bool.{Bool, true, false, cond, true≢false}
 use mathlib.Core.Option.{Option, none, some}
 use mathlib.Core.List.{List, [], _∷_}
-use Prim.Native.Nat.{ℕ}
 use Rattle.lists.specs.Choice.{found, provided, isSome}
 use Rattle.utf8.specs.Utf8.{valid}
 use Rattle.items.specs.Items.{Item}

@@ -58,8 +58,8 @@ fn is_clean(area: &[u8], count: usize) -> bool
     if !items::well_formed(area, count) {
         return false;
     }
-    let table = &utf8::class_table();
-    all_valid(table, area, count)
+    let table = utf8::table::CLASS;
+    all_valid(&table, area, count)
 }
 
 // Where the items of the file's tag stand, if the file is fit for editing.

@@ -42,8 +42,8 @@ pub fn lossy_within(table: &[u8; 256], s: &[u8], room: usize) -> Converted
 pub fn lossy_size(s: &[u8], room: usize) -> Converted
     ensures { λ r. ⌜ r ≡ answer (within room (lossy (now (s .entry)))) ⌝ }
 {
-    let table = &utf8::class_table();
-    lossy_within(table, s, room)
+    let table = utf8::table::CLASS;
+    lossy_within(&table, s, room)
 }
 
 // Writes the text, with U+FFFD in place of each ill-formed part, into `out` from `at`, and answers where it ends. With the table lent.
@@ -75,16 +75,16 @@ pub fn lossy_into(s: &[u8], out: &mut [u8]) -> Converted
     if out.len() < s.len() {
         return Converted::NoRoom;
     }
-    let table = &utf8::class_table();
+    let table = utf8::table::CLASS;
     if s.len() <= out.len() / 3 {
-        return Converted::Done(lossy_put(table, out, 0, s));
+        return Converted::Done(lossy_put(&table, out, 0, s));
     }
-    if utf8::is_utf8_by(table, s) {
+    if utf8::is_utf8_by(&table, s) {
         return Converted::Done(lists::put(out, 0, s));
     }
-    let x = lossy_within(table, s, out.len());
+    let x = lossy_within(&table, s, out.len());
     let Converted::Done(_) = x else {
         return Converted::NoRoom;
     };
-    Converted::Done(lossy_put(table, out, 0, s))
+    Converted::Done(lossy_put(&table, out, 0, s))
 }

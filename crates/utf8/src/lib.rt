@@ -6,7 +6,7 @@ ghost use lib.ListN.{length, drop};
 ghost use Rattle.utf8.specs.Utf8.{class, numberOf, Classes, begins, follow, stepOf, valid};
 ghost use Rattle.utf8.specs.Runs.{Stretch, Ran};
 
-mod table;
+pub mod table;
 
 // What stands at a place: a character of so many bytes, an ill-formed part of so many, or the end.
 pub enum Part {
@@ -19,13 +19,6 @@ pub enum Part {
 pub struct Run {
     pub end: usize,
     pub bad: usize,
-}
-
-// The table of class numbers. A call sets it up once and lends it to the functions that take `table`.
-pub fn class_table() -> [u8; 256]
-    ensures { λ r. ⌜ Classes r ⌝ }
-{
-    table::CLASS
 }
 
 fn wide(x: u8) -> usize
@@ -125,8 +118,8 @@ pub fn step_by(table: &[u8; 256], s: &[u8], at: usize) -> Part
 pub fn step(s: &[u8], at: usize) -> Part
     ensures { λ r. ⌜ r ≡ stepOf (drop at (now (s .entry))) ⌝ }
 {
-    let table = &class_table();
-    step_by(table, s, at)
+    let table = table::CLASS;
+    step_by(&table, s, at)
 }
 
 // The greater of two.
@@ -260,6 +253,6 @@ pub fn is_utf8_by(table: &[u8; 256], s: &[u8]) -> bool
 pub fn is_utf8(s: &[u8]) -> bool
     ensures { λ r. ⌜ r ≡ valid (now (s .entry)) ⌝ }
 {
-    let table = &class_table();
-    is_utf8_by(table, s)
+    let table = table::CLASS;
+    is_utf8_by(&table, s)
 }

@@ -1,8 +1,6 @@
 -- An item has nine bytes besides its texts.
-use Prim.Native.Nat.{ℕ, _+_, _-_, _≤_, _<_}
 use native.Mathlib.Omega.{arith}
 use borrow.Author.Needs.{needs}
-use lib.ListN.{length}
 use Rattle.lossy.specs.Lossy.{lossy}
 use Rattle.items.specs.Items.{itemBytes}
 use Rattle.items.proofs.Area.{length-item}

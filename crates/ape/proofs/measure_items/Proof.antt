@@ -1,7 +1,7 @@
 -- The invariant: what is counted and measured, and what is still to be read, make up all.
-use mathlib.Core.Path.{_≡_, refl, sym, ap, _∙_}
-use mathlib.Core.List.{List, [], _∷_}
-use Prim.Native.Nat.{ℕ, suc, _+_, _-_, _≤_, _<_}
+use mathlib.Core.Path.{_≡_, sym, _∙_}
+use mathlib.Core.List.{[]}
+use Prim.Native.Nat.{suc, _+_, _-_, _≤_, _<_}
 use native.Mathlib.Omega.{arith}
 use native.Mathlib.Nat.{add-zero, zero-add}
 use borrow.Author.Needs.{needs}
@@ -11,7 +11,6 @@ use Rattle.lists.specs.Write.{part}
 use Rattle.items.specs.Items.{Item, areaBytes, itemBytes}
 use Rattle.items.proofs.Area.{length-item, length-area}
 use Rattle.ape.specs.Tag.{converted, readItems}
-use Rattle.ape.specs.declared.Measured.the-variants.{Items}
 use Rattle.ape.proofs.Reading.{Turn, turn, ended, read-none}
 use Rattle.ape.proofs.Sizing.{fits-told, none-told}
 use Rattle.ape.proofs.measure_items.Statement.{statement}

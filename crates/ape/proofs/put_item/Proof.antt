@@ -1,13 +1,13 @@
 -- The texts are written behind a gap of eight bytes, then the flags and the length into it.
-use mathlib.Core.Path.{_≡_, refl, sym, ap, _∙_}
+use mathlib.Core.Path.{_≡_, ap, _∙_}
 use mathlib.Core.List.{List, [], _∷_, _++_, append-assoc}
-use Prim.Native.Nat.{ℕ, _+_, _-_, _≤_, _<_}
+use Prim.Native.Nat.{ℕ, _+_, _-_, _≤_}
 use native.Mathlib.Omega.{arith}
 use borrow.Author.Needs.{needs}
 use lib.ListN.{length}
 use Rattle.lists.specs.Le.{u32le}
 use Rattle.lists.specs.Write.{splice}
-use Rattle.lists.proofs.Wrote.{Wrote, start, next, ahead, done}
+use Rattle.lists.proofs.Wrote.{start, next, ahead}
 use Rattle.lossy.specs.Lossy.{lossy}
 use Rattle.lossy.proofs.Sizes.{length-lossy}
 use Rattle.items.specs.Items.{itemBytes}

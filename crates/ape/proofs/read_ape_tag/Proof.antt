@@ -1,16 +1,15 @@
 -- Each answer by the tests that lead to it.
-use mathlib.Core.Path.{_≡_, refl, sym, ap, _∙_}
-use mathlib.Core.Option.{Option, none, some}
+use mathlib.Core.Path.{_≡_, refl, sym, _∙_}
+use mathlib.Core.Option.{none, some}
 use mathlib.Core.List.{List}
-use Prim.Native.Nat.{ℕ, _+_, _-_, _≤_, _<_}
+use Prim.Native.Nat.{ℕ, _+_, _-_, _≤_}
 use native.Mathlib.Omega.{arith}
 use borrow.Author.Needs.{needs}
 use lib.ListN.{length, take, drop}
 use Rattle.lists.specs.Write.{over}
 use Rattle.lists.proofs.Places.{length-part}
-use Rattle.items.specs.Items.{Item}
-use Rattle.ape.specs.Tag.{findFooter, sizeAt, areaAt, readItems, readTag}
-use Rattle.ape.specs.Answers.{readPlan, readAnswer, readBytes, itemsPlan}
+use Rattle.ape.specs.Tag.{findFooter, readItems, readTag}
+use Rattle.ape.specs.Answers.{readPlan, readAnswer, readBytes}
 use Rattle.ape.specs.declared.Footer.the-variants.{At}
 use Rattle.ape.specs.declared.TagRead.the-variants.{NoTag}
 use Rattle.ape.proofs.Files.{footer-within, tag-none, tag-version, tag-long, tag-here, plan-long, plan-none, plan-some}

@@ -1,12 +1,10 @@
 -- The invariant: the items read so far are written.
-use mathlib.Core.Path.{_≡_, refl, sym, ap, _∙_}
-use Prim.Native.Nat.{ℕ, _+_, _-_, _≤_, _<_}
+use mathlib.Core.Path.{_≡_, refl, sym, _∙_}
+use Prim.Native.Nat.{_≤_}
 use native.Mathlib.Omega.{arith}
 use borrow.Author.Needs.{needs}
 use lib.ListN.{length, drop}
-use Rattle.lists.specs.Write.{part}
 use Rattle.lists.proofs.Places.{length-part}
-use Rattle.ape.specs.Tag.{converted, readItems}
 use Rattle.ape.proofs.Reading.{Turn, turn, ended, read-none}
 use Rattle.ape.proofs.Copying.{Progress, begin, fits, turned, finished}
 use Rattle.ape.proofs.write_items.Statement.{statement}

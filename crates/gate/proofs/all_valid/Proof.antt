@@ -1,14 +1,14 @@
 -- The invariant: all are valid where those are that are left.
 use mathlib.Core.Path.{_≡_, refl, sym, ap, _∙_}
-use mathlib.Core.Bool.{true, false}
+use mathlib.Core.Bool.{true}
 use mathlib.Core.List.{_∷_}
-use Prim.Native.Nat.{ℕ, _+_, _-_, _≤_, _<_}
+use Prim.Native.Nat.{_-_}
 use native.Mathlib.Omega.{arith}
 use borrow.Author.Needs.{needs}
 use borrow.Author.Tests.{not-true, not-false}
-use lib.ListN.{length, drop}
+use lib.ListN.{drop}
 use Rattle.utf8.specs.Utf8.{valid}
-use Rattle.items.specs.Items.{Item, itemsIn}
+use Rattle.items.specs.Items.{itemsIn}
 use Rattle.items.proofs.Loops.{Left, begin, Turn, turn, never, items-none}
 use Rattle.calls.specs.Gate.{allValid}
 use Rattle.gate.proofs.Clean.{valid-none, bad-key, bad-value, valid-more}

@@ -1,8 +1,10 @@
-use mathlib.Core.Path.{_≡_, refl, sym, ap, _∙_}
-use mathlib.Core.Bool.{true, false}
+use mathlib.Core.Path.{_≡_, refl, sym, _∙_}
+use mathlib.Core.Bool.{true}
 use borrow.Author.Needs.{needs}
 use borrow.Author.Tests.{not-true, not-false}
 use Rattle.lists.specs.Choice.{isSome}
+use Rattle.utf8.specs.Utf8.{numberOf}
+use Rattle.utf8.proofs.Rule.{classes}
 use Rattle.items.specs.Items.{parse}
 use Rattle.calls.specs.Gate.{allValid}
 use Rattle.gate.proofs.Clean.{provided-some, provided-none}
@@ -18,10 +20,14 @@ returns c =
 good : (c : tie.Else1) → isSome (parse (c .before .before .before .args .count) (c .before .before .before .args .area .now)) ≡ true
 good c = sym (c .before .well-formed .ensures) ∙ not-false (c .before .well-formed .result) (c .if1 .left)
 
+all-valid-requires : tie.Need-all-valid-requires
+unfolding numberOf
+all-valid-requires c κs = (classes _ refl refl, good (c .before))
+
 returns-2 : tie.Need-returns-2
 returns-2 c =
-    let g = c .before .before .before .before .before .before .args in
-    c .all-valid .ensures ∙ sym (provided-some allValid (parse (g .count) (g .area .now)) (good (c .before .before .before)))
+    let g = c .before .before .before .before .before .args in
+    c .all-valid .ensures ∙ sym (provided-some allValid (parse (g .count) (g .area .now)) (good (c .before .before)))
 
 pub is-clean-spec : {M : Type 1} → statement M
 is-clean-spec =
@@ -29,6 +35,5 @@ is-clean-spec =
     (tie.spec
     (λ c κs. search needs)
     returns
-    (λ c κs. search needs)
-    (λ c κs. (c .before .class-table .ensures, good (c .before .before)))
+    all-valid-requires
     returns-2)

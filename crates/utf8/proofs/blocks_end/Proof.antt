@@ -1,5 +1,4 @@
 -- `utf8::blocks_end` meets its contract. The invariant: what was passed is a run of characters.
-use borrow.Author.Needs.{needs}
 use borrow.Author.Tests.{not-false}
 use Prim.Native.Nat.{_-_}
 use native.Mathlib.Omega.{arith}

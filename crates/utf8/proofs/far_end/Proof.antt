@@ -4,7 +4,7 @@ use Prim.Native.Nat.{_-_}
 use native.Mathlib.Omega.{arith}
 use lib.ListN.{length}
 use Rattle.utf8.specs.Runs.{Stretch}
-use Rattle.utf8.proofs.Stretch.{none, plain}
+use Rattle.utf8.proofs.Stretch.{plain}
 use Rattle.utf8.proofs.far_end.Statement.{statement}
 use Rattle.utf8.proofs.far_end.Tie as tie
 

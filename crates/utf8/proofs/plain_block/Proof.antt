@@ -5,7 +5,6 @@ use native.Mathlib.Omega.{arith}
 use native.Mathlib.Nat.{add-zero}
 use mathlib.Core.Path.{_≡_}
 use borrow.Author.Tests.{ltb-true}
-use lib.ListN.{length}
 use Rattle.utf8.specs.Runs.{Stretch}
 use Rattle.utf8.proofs.Stretch.{none, plain}
 use Rattle.utf8.proofs.plain_block.Statement.{statement}
