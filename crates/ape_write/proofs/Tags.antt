@@ -1,9 +1,9 @@
 -- Laws of tags: the bytes of a well-formed area's tag, and their length.
 use Prim.Native.Nat.{ℕ, zero, suc, _+_, _≤_, _<_}
 use native.Mathlib.Omega.{arith}
-use mathlib.Core.Path.{_≡_, refl, sym, ap, _∙_}
+use mathlib.Core.Path.{_≡_, refl}
 use mathlib.Core.Bool.{Bool, true, false, cond}
-use mathlib.Core.List.{List, [], _∷_, _++_}
+use mathlib.Core.List.{List, [], _∷_}
 use lib.ListN.{length, length-append}
 use lib.Dec.{eqb}
 use borrow.Author.Tests.{eq-eqb, ne-eqb}
@@ -11,7 +11,7 @@ use Rattle.lists.specs.Bytes.{Small}
 use Rattle.lists.specs.Choice.{isSome}
 use Rattle.items.specs.Items.{Item, areaBytes, parse, itemsIn}
 use Rattle.items.proofs.Area.{area-items, count-items}
-use Rattle.ape.specs.Tag.{blockBytes, tagBytes, serialize}
+use Rattle.ape.specs.Tag.{tagBytes, serialize}
 use Rattle.ape.proofs.Files.{length-block}
 use Rattle.ape_write.specs.Answers.{tagParts, tagLength}
 

@@ -1,20 +1,19 @@
 -- The two loops over items of which some go: one that measures what stays, and one that writes it.
-use Prim.Native.Nat.{ℕ, zero, suc, _+_, _-_, _*_, _≤_, _<_}
+use Prim.Native.Nat.{ℕ, _+_, _-_, _*_, _≤_, _<_}
 use native.Mathlib.Nat.{zero-add, add-zero}
 use native.Mathlib.Omega.{arith}
 use mathlib.Core.Path.{_≡_, refl, sym, ap, _∙_}
 use mathlib.Core.Bool.{Bool, true, false, cond}
 use mathlib.Core.Option.{Option, none, some, Option·map}
 use mathlib.Core.List.{List, [], _∷_, _++_, append-assoc, append-nil}
-use lib.ListN.{length, take, drop, length-append, length-drop}
+use lib.ListN.{length, drop, length-append}
 use lib.Dec.{eqb}
 use borrow.Author.Tests.{eq-eqb, ne-eqb}
 use Rattle.lists.specs.Bytes.{Small}
 use Rattle.lists.specs.Choice.{found, isSome}
 use Rattle.lists.specs.Write.{over, part}
-use Rattle.lists.proofs.Places.{length-part}
-use Rattle.lists.proofs.Wrote.{Wrote, start, next, from-start}
-use Rattle.items.specs.Items.{Item, itemBytes, areaBytes, sizeOf, plainHead, parse, itemsIn, without}
+use Rattle.lists.proofs.Wrote.{Wrote, start, from-start}
+use Rattle.items.specs.Items.{Item, itemBytes, areaBytes, plainHead, parse, itemsIn, without}
 use Rattle.items.proofs.Area.{length-item, length-area, parse-long, parse-stop, parse-end, parse-none}
 use Rattle.items.proofs.Walk.{Taken, fewer, key-part}
 use Rattle.items.proofs.Loops.{Left, begin, Turn, items-none}

@@ -1,10 +1,10 @@
 -- An edit that is done: what it wrote is well formed, and reads as the new items.
-use Prim.Native.Nat.{ℕ, _+_, _-_, _≤_, _<_}
+use Prim.Native.Nat.{ℕ, _-_, _≤_}
 use native.Mathlib.Omega.{arith}
 use mathlib.Core.Path.{_≡_, refl, sym, ap, _∙_}
-use mathlib.Core.Bool.{Bool, true, false, and-eq-true-iff, true≢false}
-use mathlib.Core.Option.{Option, none, some}
-use mathlib.Core.List.{List, [], _∷_}
+use mathlib.Core.Bool.{Bool, true, false, and-eq-true-iff}
+use mathlib.Core.Option.{some}
+use mathlib.Core.List.{List}
 use lib.ListN.{length, take}
 use lib.Seq.{take-at}
 use lib.Dec.{leb}
@@ -20,8 +20,7 @@ use Rattle.items.specs.Items.{Item, areaBytes, parse, itemsIn, setItem}
 use Rattle.items.proofs.Area.{AllSane, parse-area}
 use Rattle.items.proofs.ItemLaws.{sane-set, sane-key, parse-sane}
 use Rattle.area_edit.specs.Edits.{fits, answer, bytes, setPlan}
-use Rattle.area_edit.specs.declared.Edited.{Edited}
-use Rattle.area_edit.specs.declared.Edited.the-variants.{Done, Refused}
+use Rattle.area_edit.specs.declared.Edited.the-variants.{Done}
 use Rattle.area_edit.proofs.Plans.{set-12, set-3, set-4, set-5, set-yes}
 
 -- ---- an answer says what the plan is

@@ -1,5 +1,5 @@
 -- The bytes that set writes are those of the items that it makes.
-use Prim.Native.Nat.{ℕ, _+_, _-_, _*_, _≤_, _<_}
+use Prim.Native.Nat.{ℕ, _+_, _-_, _*_, _≤_}
 use native.Mathlib.Omega.{arith}
 use mathlib.Core.Path.{_≡_, refl, sym, ap, _∙_}
 use mathlib.Core.Bool.{true, false, true≢false}
@@ -11,7 +11,7 @@ use Rattle.lists.specs.Le.{u32le}
 use Rattle.lists.specs.Write.{part}
 use Rattle.lists.proofs.Places.{part-is}
 use Rattle.keys.specs.Keys.{upperAll}
-use Rattle.items.specs.Items.{Item, itemBytes, areaBytes, sizeOf, parse, itemsIn, setItem}
+use Rattle.items.specs.Items.{Item, itemBytes, areaBytes, parse, itemsIn, setItem}
 use Rattle.items.specs.Answers.{locateOf}
 use Rattle.items.specs.declared.Place.{Place}
 use Rattle.items.specs.declared.Place.the-variants.{At, Nowhere, Malformed}

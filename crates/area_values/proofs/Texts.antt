@@ -1,7 +1,7 @@
 -- A text of at most 32 bytes, lent as the part that it fills.
 use Prim.Native.Nat.{ℕ, _-_}
 use mathlib.Core.Path.{_≡_, ap, _∙_}
-use mathlib.Core.List.{List, _++_}
+use mathlib.Core.List.{List}
 use lib.ListN.{length, take}
 use Rattle.lists.specs.Write.{over}
 use Rattle.decimal.specs.Writing.{textOf}

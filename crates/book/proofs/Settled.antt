@@ -4,14 +4,14 @@ use native.Mathlib.Omega.{arith}
 use mathlib.Core.Path.{_≡_, refl, sym, ap, _∙_}
 use mathlib.Core.Logic.{_↔_, _⊎_, inl, inr}
 use mathlib.Core.Bool.{Bool, true, false, false≢true}
-use mathlib.Core.Option.{none, some}
+use mathlib.Core.Option.{some}
 use mathlib.Core.List.{List, [], _∷_, _++_}
 use lib.ListN.{length, take, drop, length-append, length-drop, length-take, take-append-drop}
 use lib.Seq.{length-take-le, drop-append-le, drop-at, drop-length}
 use lib.Dec.{leb, ltb}
 use borrow.Author.Tests.{not-true}
 use Rattle.lists.specs.Bytes.{same, startsWith}
-use Rattle.lists.specs.Choice.{found, isSome}
+use Rattle.lists.specs.Choice.{isSome}
 use Rattle.lists.specs.Le.{readU32}
 use Rattle.lists.proofs.Same.{same-true, same-refl, starts-append}
 use Rattle.frame.specs.Tail.{preamble, id3v1Mark, standsAt, endsWithId3v1, reach, startOf, tagStart}

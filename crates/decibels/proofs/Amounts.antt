@@ -3,12 +3,12 @@ use Prim.Native.Nat.{ℕ, zero, suc, _+_, _-_, _*_, _/_, _%_, _≤_, _<_}
 use native.Mathlib.Omega.{arith}
 use mathlib.Core.Path.{_≡_, refl, sym, ap, _∙_}
 use mathlib.Core.Bool.{Bool, true, false, not}
-use lib.IntN.{ℤ, pos, negsuc, negℤ, natAbs, _-ℤ_, _*ℤ_}
+use lib.IntN.{ℤ, pos, negsuc, natAbs, _-ℤ_, _*ℤ_}
 use Rattle.integers.proofs.Parts.{up, down, neg-up, neg-down}
 use Rattle.number.specs.Reading.{withSign}
 use Rattle.decimal.specs.Writing.{isNegative}
 use Rattle.number.proofs.Signs.{differ}
-use Rattle.decibels.specs.Gain.{amount, signOr, stepsToDb, stepUnits, exact, units}
+use Rattle.decibels.specs.Gain.{amount, signOr, stepsToDb, stepUnits, exact}
 use Rattle.decibels.specs.declared.Millionths.{Millionths}
 
 -- the parts of a number with a sign

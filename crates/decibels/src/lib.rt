@@ -4,7 +4,7 @@ use decimal::Text;
 use frame::GainSteps;
 use number::Natural;
 ghost use mathlib.Core.Path.{_≡_};
-ghost use Prim.Native.Nat.{_+_, _*_, _≤_, _<_};
+ghost use Prim.Native.Nat.{_+_, _*_, _<_};
 ghost use lib.IntN.{_-ℤ_};
 ghost use Rattle.number.specs.Reading.{withSign, naturalOf};
 ghost use Rattle.decimal.specs.Writing.{textOf, shiftedIs};

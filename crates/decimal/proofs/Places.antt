@@ -1,16 +1,13 @@
 -- Laws of written digits: one law for each turn of a loop.
-use Prim.Native.Nat.{ℕ, zero, suc, _+_, _-_, _*_, _/_, _%_, _^_, _≤_, _<_}
+use Prim.Native.Nat.{ℕ, zero, suc, _+_, _-_, _/_, _%_, _^_, _≤_, _<_}
 use native.Mathlib.Omega.{arith}
 use native.Mathlib.Numerals.{add-one}
 use native.Mathlib.Nat.{add-zero, zero-add}
 use mathlib.Core.Path.{_≡_, refl, sym, ap, _∙_}
-use mathlib.Core.Bool.{Bool, true, false, cond}
 use mathlib.Core.List.{List, [], _∷_, _++_, append-assoc, append-nil}
-use lib.ListN.{length, take, drop, set, length-append, replicate}
-use lib.Seq.{take-suc}
-use lib.Dec.{ltb}
-use lib.IntN.{ℤ, pos, negsuc, natAbs}
-use lib.Signed.{mag, ltZ}
+use lib.ListN.{length, set, length-append, replicate}
+use lib.IntN.{ℤ, pos, negsuc}
+use lib.Signed.{ltZ}
 use borrow.Author.Tests.{lt-ltb, le-ltb}
 use Rattle.lists.specs.Write.{splice}
 use Rattle.lists.proofs.Wrote.{Wrote, start, from-start}

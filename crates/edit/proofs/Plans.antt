@@ -1,12 +1,12 @@
 -- Laws of set and remove on a file: each refusal by the tests before it, and what is left when all of those hold.
 use Prim.Native.Nat.{ℕ, _≤_, _<_}
 use native.Mathlib.Omega.{arith}
-use mathlib.Core.Path.{_≡_, refl, sym, ap, _∙_}
-use mathlib.Core.Bool.{Bool, true, false}
+use mathlib.Core.Path.{_≡_, _∙_}
+use mathlib.Core.Bool.{true, false}
 use mathlib.Core.List.{List}
 use lib.ListN.{length}
 use borrow.Author.Tests.{le-leb, lt-leb}
-use Rattle.replies.specs.Refusal.{Plan, no}
+use Rattle.replies.specs.Refusal.{no}
 use Rattle.replies.specs.declared.Refusal.the-variants.{FileTooLong, BadKey, NotUtf8, NotEditable, TagTooLarge}
 use Rattle.utf8.specs.Utf8.{valid}
 use Rattle.keys.specs.Keys.{isKey}

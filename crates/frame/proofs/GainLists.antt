@@ -2,9 +2,9 @@
 use mathlib.Core.Path.{_≡_, refl, sym, ap, _∙_}
 use mathlib.Core.Logic.{_↔_}
 use mathlib.Core.List.{List, [], _∷_, _++_, map, map-map, map-id}
-use Prim.Native.Nat.{ℕ, zero, suc, _+_, _≤_, _<_}
+use Prim.Native.Nat.{ℕ, zero, suc, _<_}
 use native.Mathlib.Omega.{arith}
-use lib.IntN.{ℤ, pos, negℤ, _+ℤ_, _-ℤ_, +ℤ-comm, +ℤ-assoc, negℤ-+ℤ}
+use lib.IntN.{ℤ, negℤ}
 use lib.ListN.{length, getD, length-map}
 use lib.Seq.{ext-getD}
 use Rattle.frame.specs.declared.GainMode.{GainMode}
@@ -56,11 +56,3 @@ pub afterAll-snoc : (m : GainMode) (steps : List ℤ) (s : ℤ) (gs : List ℕ) 
 unfolding afterAll
 afterAll-snoc m [] s gs = refl
 afterAll-snoc m (t ∷ ts) s gs = afterAll-snoc m ts s (map (adjust m t) gs)
-
-sum-snoc : (steps : List ℤ) (s : ℤ) → sum (steps ++ (s ∷ [])) ≡ sum steps +ℤ s
-unfolding sum
-sum-snoc [] s = +ℤ-comm s (pos 0)
-sum-snoc (t ∷ ts) s = ap (λ z. t +ℤ z) (sum-snoc ts s) ∙ sym (+ℤ-assoc t (sum ts) s)
-
-pub undo-snoc : (steps : List ℤ) (s : ℤ) → negℤ (sum (steps ++ (s ∷ []))) ≡ negℤ (sum steps) -ℤ s
-undo-snoc steps s = ap negℤ (sum-snoc steps s) ∙ negℤ-+ℤ (sum steps) s

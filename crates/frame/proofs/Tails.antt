@@ -2,17 +2,15 @@
 use Prim.Native.Nat.{ℕ, _+_, _-_, _≤_, _<_}
 use native.Mathlib.Omega.{arith}
 use mathlib.Core.Path.{_≡_, refl, sym, ap, _∙_}
-use mathlib.Core.Bool.{Bool, true, false, _&&_}
-use mathlib.Core.List.{List, [], _∷_, _++_}
+use mathlib.Core.Bool.{Bool, true, false}
+use mathlib.Core.List.{List, _++_}
 use lib.ListN.{length, drop, length-append, length-drop}
 use lib.Seq.{drop-append-le, drop-append-add}
 use lib.Dec.{leb, ltb}
 use borrow.Author.Tests.{leb-true, leb-false, le-leb, lt-leb, lt-ltb, le-ltb}
-use Rattle.lists.specs.Bytes.{startsWith}
 use Rattle.lists.proofs.Same.{starts-append}
 use Rattle.lists.specs.Le.{readU32}
 use Rattle.frame.specs.Tail.{standsAt, reach, startOf, tagStart}
-use Rattle.frame.specs.declared.TagStart.{TagStart}
 use Rattle.frame.specs.declared.TagStart.the-variants.{At, Nowhere}
 
 -- n bytes that lie in b

@@ -1,6 +1,4 @@
 // Replays the published Rust's recorded answers for crate frame.
-ghost use mathlib.Core.Path.{_≡_};
-ghost use Prim.Native.Nat.{_≤_};
 use frame::GainMode;
 use frame::GainSteps;
 use frame::TagStart;

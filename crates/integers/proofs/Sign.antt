@@ -1,16 +1,15 @@
 -- A signed number of 32 bits by its sign and its size: what the code's casts and tests mean.
 use mathlib.Core.Path.{_≡_, refl, subst, _∙_}
 use mathlib.Core.Bool.{Bool, true, false}
-use Prim.Native.Nat.{ℕ, suc, _-_, _^_, _≤_, zero-le}
+use Prim.Native.Nat.{suc, _-_, _^_, zero-le}
 use native.Mathlib.Omega.{arith}
-use borrow.Author.Tests.{ltb-true, ltb-false, lt-ltb, le-ltb}
-use lib.IntN.{ℤ, pos, negsuc, _+ℤ_}
-use lib.Dec.{ltb}
+use borrow.Author.Tests.{ltb-true, lt-ltb, le-ltb}
+use lib.IntN.{ℤ, pos, negsuc}
 use lib.Signed.{mag, ltZ}
 use mir.Syntax.{w32}
 use mir.Val.{Fits, SFits, toZ, ofZ}
 use mir.Facts.{toZ-ofZ}
-use Rattle.integers.specs.Apart.{signed, apartOf, wholeOf}
+use Rattle.integers.specs.Apart.{apartOf, wholeOf}
 
 -- the bits of a negative number, each the other way round, are its magnitude
 down′ : (z : ℤ) → SFits w32 z → ltZ z (pos 0) ≡ true → toZ w32 (4294967295 - ofZ w32 z) ≡ pos (mag z)

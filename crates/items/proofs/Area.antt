@@ -9,7 +9,7 @@ use mathlib.Core.List.{List, [], _∷_, _++_, append-assoc}
 use lib.ListN.{length, take, drop, length-append, length-drop, take-append-drop}
 use lib.Seq.{drop-append-add, take-append-seam, drop-append-seam, drop-drop, length-take-le, take-at}
 use lib.Dec.{eqb, leb}
-use borrow.Author.Tests.{le-leb, lt-leb, leb-true, leb-false, eqb-false, eqb-true, eq-eqb, ne-eqb}
+use borrow.Author.Tests.{le-leb, leb-true, leb-false, eqb-false, eqb-true, eq-eqb, ne-eqb}
 use Rattle.lists.specs.Bytes.{Small, placeOf}
 use Rattle.lists.specs.Choice.{found, provided, isSome}
 use Rattle.lists.specs.Le.{u32le, readU32}

@@ -2,7 +2,7 @@
 use Prim.Native.Nat.{ℕ, _+_, _≤_, _<_}
 use native.Mathlib.Omega.{arith}
 use mathlib.Core.Path.{_≡_, refl, sym, ap, _∙_}
-use mathlib.Core.Bool.{Bool, true, false, true≢false}
+use mathlib.Core.Bool.{true, false, true≢false}
 use mathlib.Core.Option.{Option, none, some}
 use mathlib.Core.List.{List}
 use lib.ListN.{length}
@@ -13,11 +13,11 @@ use Rattle.keys.specs.Keys.{isKey}
 use Rattle.items.specs.Items.{Item, parse, itemsIn, getItem}
 use Rattle.items.specs.Answers.{locateIn, locateOf, foundAt, findOf}
 use Rattle.items.specs.declared.Place.{Place}
-use Rattle.items.specs.declared.Place.the-variants.{At, Nowhere, Malformed}
+use Rattle.items.specs.declared.Place.the-variants.{At, Malformed}
 use Rattle.items.specs.declared.Found.the-variants.{Refused}
 use Rattle.items.proofs.Area.{area-length}
-use Rattle.items.proofs.Located.{Located, located, unlocated, at-not}
-use Rattle.items.proofs.Places.{Split, split, end-within, got, find-get}
+use Rattle.items.proofs.Located.{located, unlocated, at-not}
+use Rattle.items.proofs.Places.{split, end-within, got, find-get}
 
 module _ (s : List ℕ) (n : ℕ) (key : List ℕ) where
   pub find-12 : Malformed ≡ locateOf s n key → Refused MalformedArea ≡ findOf s n key

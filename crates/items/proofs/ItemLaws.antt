@@ -1,18 +1,18 @@
 -- Laws of items by key: get, set and without, and what an edit does to their number, their bytes and their reading.
-use Prim.Native.Nat.{ℕ, zero, suc, _+_, _≤_, _<_}
+use Prim.Native.Nat.{ℕ, zero, suc, _+_, _≤_}
 use native.Mathlib.Omega.{arith}
 use mathlib.Core.Path.{_≡_, refl, sym, ap, _∙_}
 use mathlib.Core.Bool.{Bool, true, false, _||_, cond, true≢false}
 use mathlib.Core.Option.{Option, none, some, Option·map}
-use mathlib.Core.List.{List, [], _∷_, _++_}
+use mathlib.Core.List.{List, [], _∷_}
 use lib.ListN.{length, take, drop, length-append}
 use lib.Dec.{eqb}
 use Rattle.lists.specs.Bytes.{placeOf}
 use Rattle.lists.specs.Choice.{found}
 use Rattle.keys.specs.Keys.{upperAll, sameKey, isMp3gainKey, isUndone, undoKey, minmaxKey, isKey}
 use Rattle.keys.proofs.Keys.{key-sym, key-upper, length-upper, Caseless, same-caseless, from-caseless, eight-are, printable-whole, printable-upper, key-printable}
-use Rattle.items.specs.Items.{Item, itemBytes, areaBytes, sizeOf, Head, plainHead, parse, itemsIn, getItem, setItem, without, removeItem}
-use Rattle.items.proofs.Area.{AllSane, whole, plain, length-item, length-area}
+use Rattle.items.specs.Items.{Item, areaBytes, Head, plainHead, parse, itemsIn, getItem, setItem, without, removeItem}
+use Rattle.items.proofs.Area.{AllSane, whole, plain, length-area}
 
 -- ---- get, set, without
 

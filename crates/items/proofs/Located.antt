@@ -1,8 +1,8 @@
 -- The search for the first match, at a place.
-use Prim.Native.Nat.{ℕ, zero, suc, _+_, _-_, _*_, _≤_, _<_}
+use Prim.Native.Nat.{ℕ, _+_, _-_, _*_, _≤_, _<_}
 use native.Mathlib.Omega.{arith}
 use mathlib.Core.Path.{_≡_, refl, sym, ap, _∙_}
-use mathlib.Core.Bool.{Bool, true, false, cond, true≢false}
+use mathlib.Core.Bool.{Bool, true, false, cond}
 use mathlib.Core.Option.{Option, none, some, Option·map}
 use mathlib.Core.List.{List, [], _∷_}
 use lib.ListN.{length, take, drop}
@@ -10,7 +10,7 @@ use lib.Dec.{eqb}
 use borrow.Author.Tests.{eq-eqb, ne-eqb}
 use Rattle.lists.specs.Choice.{found, isSome}
 use Rattle.keys.specs.Keys.{sameKey}
-use Rattle.items.specs.Items.{Item, Head, plainHead, sizeOf, parse, itemsIn}
+use Rattle.items.specs.Items.{Item, plainHead, sizeOf, parse, itemsIn}
 use Rattle.items.specs.Answers.{locateIn, locateOf}
 use Rattle.items.specs.declared.Place.{Place}
 use Rattle.items.specs.declared.Place.the-variants.{At, Nowhere, Malformed}

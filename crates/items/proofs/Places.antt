@@ -1,8 +1,8 @@
 -- The place of the first match: what get and set do is done there.
-use Prim.Native.Nat.{ℕ, zero, suc, _+_, _-_, _≤_, _<_}
+use Prim.Native.Nat.{ℕ, _+_, _-_, _≤_}
 use native.Mathlib.Omega.{arith}
 use mathlib.Core.Path.{_≡_, refl, sym, ap, _∙_}
-use mathlib.Core.Bool.{Bool, true, false, cond}
+use mathlib.Core.Bool.{Bool, true, false}
 use mathlib.Core.Option.{Option, none, some}
 use mathlib.Core.List.{List, [], _∷_, _++_, append-assoc, append-nil}
 use lib.ListN.{length, take, drop, length-append}
@@ -10,7 +10,7 @@ use lib.Seq.{take-at, drop-at}
 use Rattle.lists.specs.Bytes.{Small}
 use Rattle.lists.specs.Choice.{isSome}
 use Rattle.lists.specs.Le.{u32le}
-use Rattle.keys.specs.Keys.{upperAll, sameKey, isKey}
+use Rattle.keys.specs.Keys.{upperAll, sameKey}
 use Rattle.keys.proofs.Keys.{length-upper}
 use Rattle.items.specs.Items.{Item, itemBytes, areaBytes, sizeOf, parse, itemsIn, getItem, setItem}
 use Rattle.items.specs.Answers.{locateIn, foundAt}

@@ -1,27 +1,27 @@
 -- The step over an area, at a place.
-use Prim.Native.Nat.{ℕ, zero, suc, _+_, _-_, _≤_, _<_}
+use Prim.Native.Nat.{ℕ, _+_, _-_, _≤_, _<_}
 use native.Mathlib.Omega.{arith}
 use native.Mathlib.Nat.{add-zero}
 use mathlib.Core.Path.{_≡_, refl, sym, ap, _∙_}
-use mathlib.Core.Bool.{Bool, true, false, cond}
+use mathlib.Core.Bool.{Bool, true, false}
 use mathlib.Core.Logic.{_⊎_, ⊎-elim}
 use mathlib.Core.Option.{Option, none, some, Option·map}
-use mathlib.Core.List.{List, [], _∷_}
+use mathlib.Core.List.{List, _∷_}
 use lib.ListN.{length, take, drop, length-drop}
 use lib.Seq.{drop-drop, getD-drop}
 use lib.Dec.{leb}
 use borrow.Author.Tests.{le-leb, lt-leb, leb-true, leb-false}
 use denote.Enum.Declared.{tagOf, declared}
 use Rattle.lists.specs.Bytes.{placeOf}
-use Rattle.lists.specs.Choice.{found, isSome}
+use Rattle.lists.specs.Choice.{isSome}
 use Rattle.lists.specs.Le.{readU32}
 use Rattle.lists.proofs.Numbers.{read-drop}
-use Rattle.items.specs.Items.{Item, sizeOf, Head, head, plainHead, parse}
+use Rattle.items.specs.Items.{sizeOf, Head, head, plainHead, parse}
 use Rattle.items.specs.Answers.{placesOf, stepBy, stepAny, stepOf}
 use Rattle.items.specs.declared.Stepped.{Stepped}
 use Rattle.items.specs.declared.Stepped.the-variants.{Item as ItemAt, Malformed, End}
 use Rattle.items.proofs.Stepped.{enum}
-use Rattle.items.proofs.Area.{Whole, Front, front, head-front, head-unfit, whole, plain, plain-yes, plain-flagged, plain-none, parse-stop, parse-go, map-some}
+use Rattle.items.proofs.Area.{Whole, Front, front, head-front, head-unfit, whole, plain, plain-yes, plain-flagged, plain-none, parse-go, map-some}
 
 -- ---- by the code's numbers
 

@@ -7,10 +7,9 @@ use lib.ListN.{length, take, drop}
 use lib.Dec.{leb}
 use Rattle.lists.specs.Choice.{found, isSome}
 use Rattle.replies.specs.Refusal.{need, refusalOf, Plan, no, yes, planned, numberOf}
-use Rattle.replies.specs.declared.Refusal.{Refusal}
 use Rattle.replies.specs.declared.Refusal.the-variants.{MalformedArea, BadKey}
 use Rattle.keys.specs.Keys.{sameKey, isKey}
-use Rattle.items.specs.Items.{Item, Head, sizeOf, head, plainHead, parse, itemsIn}
+use Rattle.items.specs.Items.{Item, Head, sizeOf, head, plainHead, parse}
 use Rattle.items.specs.declared.Stepped.{Stepped}
 use Rattle.items.specs.declared.Stepped.the-variants.{Item as ItemAt, Malformed as BadItem, End}
 use Rattle.items.specs.declared.Place.{Place}

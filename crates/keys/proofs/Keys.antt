@@ -1,20 +1,17 @@
 -- Laws of keys: equality without case is an equivalence, upper-casing keeps a key equal, and the lookup goes by the key without case.
-use Prim.Native.Nat.{ℕ, zero, suc, _+_, _-_, _≤_, _<_}
+use Prim.Native.Nat.{ℕ, zero, suc, _-_, _≤_, _<_}
 use native.Mathlib.Omega.{arith}
-use native.Mathlib.Numerals.{add-one}
 use mathlib.Core.Path.{_≡_, refl, sym, ap, _∙_, fun-ext}
 use mathlib.Core.Bool.{Bool, true, false, not, _&&_, _||_, cond, and-eq-true-iff, true≢false}
 use mathlib.Core.Option.{Option, none, some, Option·map}
 use mathlib.Core.List.{List, [], _∷_, map, map-map}
 use lib.ListN.{length, getD, take, drop, length-map}
-use lib.Seq.{drop-cons}
 use lib.Dec.{leb, eqb}
 use borrow.Author.Tests.{lt-leb, le-leb, leb-true, leb-false, eqb-true, eqb-false, eq-eqb, ne-eqb}
 use Rattle.lists.specs.Bytes.{among, all, same, placeOf}
-use Rattle.lists.specs.Choice.{found, isSome}
+use Rattle.lists.specs.Choice.{found}
 use Rattle.lists.proofs.Same.{and-false, same-true, same-refl, same-unequal}
-use Rattle.keys.specs.Keys.{upper, upperAll, sameKey, whichOf, keys, whichKey, whichIs, isFrom, isMp3gainKey, isUndone, isReplayGain, undoKey, minmaxKey, printable, isReserved, isKey}
-use Rattle.keys.specs.declared.Which.{Which}
+use Rattle.keys.specs.Keys.{upper, upperAll, sameKey, whichOf, keys, whichKey, whichIs, isFrom, isMp3gainKey, isUndone, undoKey, minmaxKey, printable, isReserved, isKey}
 use Rattle.keys.specs.declared.Which.the-variants.{Key, Other}
 
 -- ---- equal without case is equal in upper case
@@ -180,9 +177,6 @@ unfolding whichOf sameKey
 which-same [] a b e = refl
 which-same (n ∷ ns) a b e = rw (key-true a b e, which-same ns a b e)
 
-pub which-upper : (ns : List (List ℕ)) (k : List ℕ) → whichOf ns (upperAll k) ≡ whichOf ns k
-which-upper ns k = which-same ns (upperAll k) k (key-upper k)
-
 -- the place found is a place of the list, and its name is the key without case
 pub which-is : (ns : List (List ℕ)) (k : List ℕ) (i : ℕ) → whichOf ns k ≡ some i → (i < length ns) × (sameKey k (getD ns i []) ≡ true)
 unfolding whichOf
@@ -245,9 +239,6 @@ from-less m n h key e = go (whichKey key) e
 pub undone-eight : (key : List ℕ) → isUndone key ≡ true → isMp3gainKey key ≡ true
 undone-eight key e = from-less 0 2 (omega arith) key e
 
-pub replaygain-eight : (key : List ℕ) → isReplayGain key ≡ true → isMp3gainKey key ≡ true
-replaygain-eight key e = from-less 0 3 (omega arith) key e
-
 -- UNDONE_KEYS with the two that level sets are the eight
 pub eight-are : (k : List ℕ) → isMp3gainKey k ≡ (isUndone k || (sameKey undoKey k || sameKey minmaxKey k))
 unfolding isFrom whichKey whichOf keys undoKey minmaxKey
@@ -270,10 +261,6 @@ pub undo-keys : (isKey undoKey ≡ true) × (isKey minmaxKey ≡ true)
 unfolding isKey undoKey minmaxKey isReserved whichOf sameKey same upperAll upper all
 undo-keys = (refl, refl)
 
-pub undo-stays : (isUndone undoKey ≡ false) × (isUndone minmaxKey ≡ false)
-unfolding isFrom whichKey whichOf keys undoKey minmaxKey sameKey same upperAll upper
-undo-stays = (refl, refl)
-
 -- a key that is none of the eight is neither of them
 pub apart : (p : List ℕ → Bool) → Caseless p → (key other : List ℕ) → p key ≡ false → p other ≡ true → sameKey key other ≡ false
 apart p c key other n y = go (sameKey key other) refl
@@ -284,9 +271,6 @@ apart p c key other n y = go (sameKey key other) refl
 
 pub not-undo : (key : List ℕ) → isMp3gainKey key ≡ false → sameKey key undoKey ≡ false
 not-undo key n = apart isMp3gainKey (from-caseless 0) key undoKey n (undo-eight .0)
-
-pub not-minmax : (key : List ℕ) → isMp3gainKey key ≡ false → sameKey key minmaxKey ≡ false
-not-minmax key n = apart isMp3gainKey (from-caseless 0) key minmaxKey n (undo-eight .1)
 
 -- ---- good keys
 

@@ -1,15 +1,14 @@
 -- Laws of the undo numbers that level stores: refusals 9 and 11.
 use Prim.Native.Nat.{ℕ}
 use mathlib.Core.Path.{_≡_, refl, sym, ap, _∙_}
-use mathlib.Core.Bool.{Bool, true, false, _&&_, cond}
-use mathlib.Core.Option.{Option, none, some, Option·getD}
+use mathlib.Core.Bool.{Bool, true, false, cond}
+use mathlib.Core.Option.{Option·getD}
 use mathlib.Core.List.{List, []}
-use lib.IntN.{ℤ}
 use lib.Signed.{mag}
 use Rattle.lists.specs.Choice.{found}
 use Rattle.integers.specs.declared.Apart.{Apart}
-use Rattle.integers.specs.Apart.{signed, wholeOf}
-use Rattle.replies.specs.Refusal.{Plan, no, yes}
+use Rattle.integers.specs.Apart.{wholeOf}
+use Rattle.replies.specs.Refusal.{no, yes}
 use Rattle.replies.specs.declared.Refusal.the-variants.{FlagDiffers, UndoOutOfRange}
 use Rattle.frame.specs.declared.GainMode.{GainMode}
 use Rattle.values.specs.declared.UndoValues.{UndoValues}
@@ -19,7 +18,7 @@ use Rattle.items.specs.declared.Found.{Found}
 use Rattle.items.specs.declared.Found.the-variants.{Value, Nothing, Refused}
 use Rattle.items.specs.Answers.{valueOf, isThere}
 use Rattle.items.proofs.Places.{got}
-use Rattle.calls.specs.Calls.{Level, storedUndo, agrees, booked, isUndoNumber, numbersFit}
+use Rattle.calls.specs.Calls.{Level, storedUndo, agrees, booked, isUndoNumber}
 use Rattle.level.specs.Answers.{bookedPlan}
 
 pub by-mag : (a : Apart) → a .by ≡ mag (wholeOf a)

@@ -1,11 +1,10 @@
 -- Laws of the items that level leaves: how they begin, how long they are, and that they can be read back.
-use Prim.Native.Nat.{ℕ, _+_, _*_, _≤_, _<_}
+use Prim.Native.Nat.{_+_, _*_, _≤_}
 use native.Mathlib.Omega.{arith}
-use mathlib.Core.Path.{_≡_, refl, sym, ap, _∙_}
+use mathlib.Core.Path.{_≡_, refl, ap}
 use mathlib.Core.Bool.{Bool, true, false, cond}
-use mathlib.Core.List.{List, [], _∷_}
+use mathlib.Core.List.{List}
 use lib.ListN.{length}
-use lib.Dec.{eqb}
 use lib.IntN.{ℤ, pos, negsuc}
 use borrow.Author.Tests.{eq-eqb, ne-eqb}
 use Rattle.keys.specs.Keys.{undoKey, minmaxKey, isUndone}
@@ -15,7 +14,7 @@ use Rattle.values.specs.declared.Range.{Range}
 use Rattle.values.specs.Undo.{formatUndo}
 use Rattle.values.specs.Range.{formatRange}
 use Rattle.values.proofs.ReadBack.{length-undo, length-range}
-use Rattle.items.specs.Items.{Item, areaBytes, setItem, without}
+use Rattle.items.specs.Items.{Item, areaBytes, without}
 use Rattle.items.proofs.Area.{AllSane}
 use Rattle.items.proofs.ItemLaws.{area-set, area-without, sane-set, sane-key}
 use Rattle.calls.specs.Calls.{Level, sameStep, wraps, shiftStoredGain, shiftedItems}

@@ -1,7 +1,7 @@
 -- A text that was formatted, set as the value of an item.
 use Prim.Native.Nat.{ℕ, _-_, _≤_}
 use native.Mathlib.Omega.{arith}
-use mathlib.Core.Path.{_≡_, sym, ap, _∙_}
+use mathlib.Core.Path.{_≡_, ap}
 use mathlib.Core.List.{List}
 use lib.ListN.{length, take}
 use Rattle.replies.specs.Limits.{fileLimit}

@@ -1,16 +1,16 @@
 -- Laws of the lines of items: how long they are, and the loop that writes them.
-use Prim.Native.Nat.{ℕ, _+_, _-_, _*_, _≤_, _<_}
+use Prim.Native.Nat.{ℕ, _+_, _-_, _*_, _≤_}
 use native.Mathlib.Omega.{arith}
 use mathlib.Core.Path.{_≡_, refl, sym, ap, _∙_}
-use mathlib.Core.Bool.{Bool, true, false}
-use mathlib.Core.List.{List, [], _∷_, _++_, append-assoc, append-nil}
+use mathlib.Core.Bool.{true, false}
+use mathlib.Core.List.{List, [], _++_, append-assoc, append-nil}
 use lib.ListN.{length, drop, length-append}
 use Rattle.lists.specs.Choice.{isSome}
 use Rattle.lists.specs.Write.{splice, part}
 use Rattle.lists.proofs.Wrote.{Wrote, start, next, done}
-use Rattle.items.specs.Items.{Item, parse, itemsIn, sizeOf}
+use Rattle.items.specs.Items.{Item, parse, itemsIn}
 use Rattle.items.proofs.Loops.{Left, begin, Turn, items-none}
-use Rattle.listing.specs.Listing.{line, lines, printedAll}
+use Rattle.listing.specs.Listing.{line, lines}
 use Rattle.listing.proofs.Printing.{all-short}
 
 pub line-short : (t : Item) → length (line t) ≤ 3 * length (t .key) + 3 * length (t .value) + 2

@@ -1,18 +1,17 @@
 -- The items that are read have keys without a zero byte, so they are read back from their area.
-use Prim.Native.Nat.{ℕ, zero, suc, _+_, _-_, _*_, _≤_, _<_}
+use Prim.Native.Nat.{ℕ, zero, suc, _+_, _*_, _≤_}
 use native.Mathlib.Omega.{arith}
-use mathlib.Core.Path.{_≡_, refl, sym, ap, _∙_}
+use mathlib.Core.Path.{_≡_, refl, ap, _∙_}
 use mathlib.Core.Bool.{Bool, true, false, _&&_, cond}
 use mathlib.Core.Option.{Option, none, some}
 use mathlib.Core.List.{List, [], _∷_, _++_}
 use lib.ListN.{length, take, drop, length-take, length-drop}
 use lib.Dec.{eqb, leb}
 use Rattle.lists.specs.Bytes.{placeOf}
-use Rattle.lists.specs.Choice.{found}
 use Rattle.utf8.specs.declared.Part.{Part}
 use Rattle.utf8.specs.declared.Part.the-variants.{Good, Bad, End}
 use Rattle.utf8.specs.Utf8.{stepOf, size, after}
-use Rattle.lossy.specs.Lossy.{mark, textOf, lossyFrom, lossy}
+use Rattle.lossy.specs.Lossy.{textOf, lossyFrom, lossy}
 use Rattle.items.specs.Items.{Item, Head, head, areaBytes}
 use Rattle.items.proofs.Area.{AllSane, whole}
 use Rattle.ape.specs.declared.Footer.{Footer}

@@ -1,7 +1,7 @@
 -- What the reading of a file that is short enough to be listed answers: nothing is refused, and the items are read back from their area.
 use Prim.Native.Nat.{ℕ, _+_, _-_, _*_, _≤_, _<_}
 use native.Mathlib.Omega.{arith}
-use mathlib.Core.Path.{_≡_, refl, sym, ap, _∙_}
+use mathlib.Core.Path.{_≡_, refl, ap, _∙_}
 use mathlib.Core.Bool.{Bool, true, false, _&&_, cond}
 use mathlib.Core.Option.{Option, none, some}
 use mathlib.Core.List.{List, [], _∷_, _++_}
@@ -10,15 +10,14 @@ use lib.Seq.{take-at}
 use lib.Dec.{leb, eqb}
 use borrow.Author.Tests.{le-leb, lt-leb}
 use Rattle.lists.specs.Bytes.{ascii}
-use Rattle.lists.specs.Choice.{found, isSome}
 use Rattle.lists.specs.Write.{over}
-use Rattle.replies.specs.Refusal.{Plan, no, yes}
+use Rattle.replies.specs.Refusal.{yes}
 use Rattle.replies.specs.declared.Refusal.{Refusal}
 use Rattle.decimal.specs.Writing.{decimal}
-use Rattle.items.specs.Items.{Item, areaBytes, parse, itemsIn}
+use Rattle.items.specs.Items.{Item, areaBytes, parse}
 use Rattle.items.proofs.Area.{read-back}
 use Rattle.ape.specs.Tag.{findFooter, versionAt, sizeAt, countAt, areaAt, readItems, readTag}
-use Rattle.ape.specs.Answers.{readArea, readPlan, readAnswer, readBytes}
+use Rattle.ape.specs.Answers.{readArea, readPlan, readAnswer}
 use Rattle.ape.specs.declared.Footer.the-variants.{At}
 use Rattle.ape.specs.declared.TagRead.{TagRead}
 use Rattle.ape.specs.declared.TagRead.the-variants.{NoTag, Items, Refused}

@@ -6,7 +6,7 @@ ghost use Prim.Native.Nat.{_≤_, _<_, _+_, _*_, _/_, _%_};
 ghost use lib.ListN.{length};
 ghost use Rattle.lists.specs.Choice.{isSome};
 ghost use Rattle.lists.specs.Write.{over, splice};
-ghost use Rattle.items.specs.Items.{Item, parse, itemsIn};
+ghost use Rattle.items.specs.Items.{parse, itemsIn};
 ghost use Rattle.ape.specs.Tag.{readTag};
 ghost use Rattle.ape.specs.Answers.{readArea};
 ghost use Rattle.listing.specs.Listing as L;

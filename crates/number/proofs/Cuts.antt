@@ -5,8 +5,8 @@ use native.Mathlib.Numerals.{add-one}
 use native.Mathlib.Nat.{zero-add}
 use mathlib.Core.Path.{_≡_, refl, sym, ap, _∙_}
 use mathlib.Core.Bool.{Bool, true, false, cond}
-use mathlib.Core.Option.{Option, none, some}
-use mathlib.Core.List.{List, [], _∷_, _++_}
+use mathlib.Core.Option.{none, some}
+use mathlib.Core.List.{List, [], _∷_}
 use lib.ListN.{length, take, drop, length-drop}
 use lib.Dec.{ltb, eqb, leb·suc-suc}
 use lib.Seq.{drop-drop, length-take-le}
@@ -14,7 +14,6 @@ use borrow.Author.Tests.{lt-ltb, le-ltb}
 use Rattle.lists.proofs.Places.{place-within}
 use Rattle.lists.proofs.Wrote.{rest}
 use Rattle.lists.specs.Bytes.{placeOf}
-use Rattle.lists.specs.Choice.{found}
 use Rattle.number.specs.Fields.{before, behind, field}
 
 pub before-is : (c : ℕ) (s : List ℕ) → before c s ≡ take (placeOf c s) s

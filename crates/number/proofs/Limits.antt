@@ -1,18 +1,16 @@
 -- Laws of numbers kept only up to a limit.
-use Prim.Native.Nat.{ℕ, zero, suc, _+_, _-_, _≤_, _<_}
+use Prim.Native.Nat.{ℕ, zero, suc, _-_, _≤_}
 use native.Mathlib.Omega.{arith}
-use mathlib.Core.Path.{_≡_, refl, sym, ap, _∙_}
+use mathlib.Core.Path.{_≡_, refl, sym, ap}
 use mathlib.Core.Bool.{Bool, true, false, cond}
 use mathlib.Core.Option.{Option, none, some, Option·map}
 use mathlib.Core.List.{List}
-use lib.Dec.{leb, ltb, leb·suc-suc}
-use lib.IntN.{ℤ, pos, negsuc, negℤ}
-use lib.Signed.{mag}
-use borrow.Author.Tests.{leb-true, ltb-true, le-leb}
+use lib.Dec.{leb, leb·suc-suc}
+use lib.IntN.{ℤ, negsuc}
+use borrow.Author.Tests.{leb-true}
 use Rattle.lists.specs.Choice.{provided}
 use Rattle.number.specs.Trim.{trim}
-use Rattle.number.specs.Reading.{isI32, withSign, natural, isMinus, unsigned, whole, i32, u8, naturalOf, i32Of, u8Of}
-use Rattle.number.specs.declared.Natural.{Natural}
+use Rattle.number.specs.Reading.{isI32, withSign, natural, isMinus, unsigned, whole, u8, naturalOf, i32Of, u8Of}
 use Rattle.number.specs.declared.Natural.the-variants.{Value, Nothing}
 use Rattle.number.specs.declared.I32Field.the-variants as i
 use Rattle.number.specs.declared.U8Field.the-variants as u

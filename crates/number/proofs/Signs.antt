@@ -1,5 +1,5 @@
 -- Laws of integers: taken apart, and their sums by their parts.
-use Prim.Native.Nat.{ℕ, _+_, _<_}
+use Prim.Native.Nat.{_+_, _<_}
 use native.Mathlib.Omega.{arith}
 use mathlib.Core.Path.{_≡_, ap, _∙_}
 use lib.IntN.{ℤ, negℤ, _+ℤ_, _-ℤ_}

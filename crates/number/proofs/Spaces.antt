@@ -1,15 +1,15 @@
 -- Laws of `isSpace` and `trim`: a byte by comparisons, and one law for each turn of a loop.
-use Prim.Native.Nat.{ℕ, _+_, _-_, _≤_, _<_}
+use Prim.Native.Nat.{ℕ, _+_, _≤_, _<_}
 use native.Mathlib.Omega.{arith}
 use native.Mathlib.Numerals.{add-one}
-use mathlib.Core.Path.{_≡_, refl, sym, ap, _∙_}
-use mathlib.Core.Bool.{Bool, true, false, cond}
+use mathlib.Core.Path.{_≡_, refl}
+use mathlib.Core.Bool.{true, false}
 use mathlib.Core.List.{List, [], _∷_, _++_}
 use lib.ListN.{length, take, drop, getD, drop-of-length-le}
 use lib.Dec.{eqb}
 use lib.Seq.{drop-cons, take-suc}
-use borrow.Author.Tests.{le-leb, lt-leb, eq-eqb, ne-eqb}
-use Rattle.number.specs.Trim.{isSpace, trimLeft, keep, trimRight, trim}
+use borrow.Author.Tests.{le-leb, lt-leb, ne-eqb}
+use Rattle.number.specs.Trim.{isSpace, trimLeft, keep, trimRight}
 
 pub space-low : (x : ℕ) → x < 9 → false ≡ isSpace x
 unfolding isSpace

@@ -1,18 +1,17 @@
 -- A slip is read exactly if it has the form of document 01, and an accepted one has its steps in range.
-use Prim.Native.Nat.{ℕ, zero, suc, _+_, _-_, _*_, _^_, _≤_, _<_}
+use Prim.Native.Nat.{ℕ, suc, _+_, _-_, _*_, _≤_, _<_}
 use native.Mathlib.Omega.{arith}
 use mathlib.Core.Path.{_≡_, refl, sym, ap, _∙_}
 use mathlib.Core.Bool.{Bool, true, false, not, _&&_, _||_, cond, and-eq-true-iff}
 use mathlib.Core.Option.{Option, none, some, Option·map}
-use mathlib.Core.List.{List, [], _∷_, _++_, append-assoc}
+use mathlib.Core.List.{List, [], _∷_, _++_}
 use lib.ListN.{length, drop}
 use lib.Seq.{drop-append-seam}
 use lib.Dec.{eqb, leb}
 use lib.IntN.{ℤ, pos, negsuc, natAbs}
 use borrow.Author.Tests.{eq-eqb, ne-eqb, eqb-true, leb-true, le-leb, not-true}
-use Rattle.lists.specs.Bytes.{ascii, all, same, startsWith}
+use Rattle.lists.specs.Bytes.{ascii, all, startsWith}
 use Rattle.lists.specs.Choice.{found}
-use Rattle.lists.proofs.Same.{same-true}
 use Rattle.number.specs.Fields.{before, behind}
 use Rattle.number.specs.Reading.{isDigit, digitsFrom, natural, isMinus, unsigned, withSign, whole}
 use Rattle.decimal.specs.Writing.{decimal, signed}
@@ -20,7 +19,7 @@ use Rattle.decimal.proofs.ReadBack.{digits-at-most, whole-signed}
 use Rattle.frame.specs.declared.GainMode.{GainMode}
 use Rattle.replies.specs.declared.Refusal.the-variants.{StepOutOfRange, MalformedSlip}
 use Rattle.replies.specs.Refusal.{need, refusalOf}
-use Rattle.slip.specs.Slip.{stepText, stepLine, modeLine, linesForm, slipForm, isStep, inRange, answer, readSlip}
+use Rattle.slip.specs.Slip.{stepText, stepLine, modeLine, linesForm, slipForm, isStep, inRange, readSlip}
 use Rattle.slip.specs.declared.Wish.{Wish}
 use Rattle.slip.specs.declared.Slip.the-variants.{Steps, Refused}
 

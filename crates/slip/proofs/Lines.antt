@@ -1,22 +1,19 @@
 -- Laws of a slip's lines.
-use Prim.Native.Nat.{ℕ, zero, suc, _+_, _-_, _≤_, _<_}
+use Prim.Native.Nat.{ℕ, zero, suc, _-_, _≤_, _<_}
 use native.Mathlib.Omega.{arith}
 use mathlib.Core.Path.{_≡_, refl, sym, ap, _∙_}
-use mathlib.Core.Bool.{Bool, true, false, cond}
+use mathlib.Core.Bool.{Bool, true, false}
 use mathlib.Core.Option.{Option, none, some, Option·map}
-use mathlib.Core.List.{List, [], _∷_, _++_}
+use mathlib.Core.List.{List}
 use lib.ListN.{length, take, drop, length-drop}
-use lib.Dec.{leb, ltb}
-use lib.IntN.{ℤ, pos, negsuc, negℤ}
-use lib.Signed.{mag}
-use borrow.Author.Tests.{le-leb, lt-leb, leb-true, lt-ltb, ltb-true, ltb-false}
+use lib.Dec.{ltb}
+use borrow.Author.Tests.{lt-ltb, ltb-true, ltb-false}
 use Rattle.lists.specs.Bytes.{startsWith}
 use Rattle.lists.specs.Choice.{provided}
 use Rattle.lists.proofs.Same.{starts-long}
 use Rattle.lists.proofs.Wrote.{rest}
 use Rattle.number.specs.Reading.{natural, isMinus, unsigned, withSign, whole, isI32}
 use Rattle.number.proofs.Digits.{natural-below}
-use Rattle.slip.specs.Slip.{stepText, stepLine}
 
 -- a name that stands there fits
 pub starts-fits : (p s : List ℕ) → startsWith p s ≡ true → length p ≤ length s

@@ -1,19 +1,18 @@
 -- Laws of undo: each refusal by the tests before it, and what is left when all of those hold.
 use Prim.Native.Nat.{ℕ, _≤_, _<_}
 use native.Mathlib.Omega.{arith}
-use mathlib.Core.Path.{_≡_, refl, sym, ap, _∙_}
-use mathlib.Core.Bool.{Bool, true, false, _&&_, cond}
-use mathlib.Core.Option.{Option, none, some}
-use mathlib.Core.List.{List, [], _∷_}
+use mathlib.Core.Path.{_≡_, refl, ap, _∙_}
+use mathlib.Core.Bool.{Bool, true, false}
+use mathlib.Core.Option.{none, some}
+use mathlib.Core.List.{List, []}
 use lib.ListN.{length}
-use lib.Dec.{leb}
 use borrow.Author.Tests.{le-leb, lt-leb}
-use Rattle.lists.specs.Write.{over, part}
-use Rattle.replies.specs.Refusal.{Plan, no, yes}
+use Rattle.lists.specs.Write.{part}
+use Rattle.replies.specs.Refusal.{no, yes}
 use Rattle.replies.specs.declared.Refusal.{Refusal}
 use Rattle.replies.specs.declared.Refusal.the-variants.{FileTooLong, NoLeftGains, NotEditable, NoUndo, NoRoom}
 use Rattle.keys.specs.Keys.{isMp3gainKey}
-use Rattle.items.specs.Items.{Item, areaBytes, without}
+use Rattle.items.specs.Items.{without}
 use Rattle.items.proofs.Area.{count-items}
 use Rattle.items.proofs.ItemLaws.{count-without, area-without}
 use Rattle.ape.specs.Tag.{replaced}

@@ -1,7 +1,7 @@
 -- Laws of undo and range texts: they read back, their lengths, their bytes, and the sizes of what is read.
-use Prim.Native.Nat.{ℕ, zero, suc, _+_, _≤_, _<_}
+use Prim.Native.Nat.{ℕ, _≤_, _<_}
 use native.Mathlib.Omega.{arith}
-use mathlib.Core.Path.{_≡_, refl, sym, ap, _∙_}
+use mathlib.Core.Path.{_≡_, refl}
 use mathlib.Core.Bool.{Bool, true, false, not, _||_}
 use mathlib.Core.Option.{Option, none, some, Option·getD}
 use mathlib.Core.List.{List, [], _∷_, _++_}
@@ -12,14 +12,11 @@ use borrow.Author.Tests.{ltb-true}
 use Rattle.lists.specs.Bytes.{ascii, all, same}
 use Rattle.number.specs.Trim.{isSpace, trimLeft, keep, trimRight, trim}
 use Rattle.number.specs.Fields.{before, behind, field}
-use Rattle.number.specs.Reading.{natural, unsigned, isMinus, whole, isI32, isU8, i32, u8}
-use Rattle.decimal.specs.Writing.{places, decimal, signed}
-use Rattle.decimal.proofs.Places.{length-places}
+use Rattle.number.specs.Reading.{natural, unsigned, isMinus, whole, isI32, isU8, i32}
+use Rattle.decimal.specs.Writing.{places, signed}
 use Rattle.number.proofs.Limits.{provided-holds}
 use Rattle.decimal.proofs.ReadBack.{marks-signed, marks-places, before-marks, behind-marks, comma, i32-signed, u8-places, i32-places, length-decimal, Plain, plain-before, plain-marks}
 use Rattle.keys.specs.Keys.{upper, upperAll, sameKey}
-use Rattle.frame.specs.declared.GainMode.the-variants.{Saturating}
-use Rattle.frame.specs.Gain.{adjust}
 use Rattle.values.specs.Undo.{flagByte, formatUndo, parseUndo, undoWraps, sat32, accumulated}
 use Rattle.values.specs.Range.{formatRange, parseRange, shifted, shiftRange, leaves, wrapsOut}
 use Rattle.values.specs.declared.Range.{Range}

@@ -4,7 +4,7 @@ use native.Mathlib.Omega.{arith}
 use mathlib.Core.Path.{_≡_, refl, sym, ap, _∙_}
 use mathlib.Core.Bool.{Bool, true, false, not}
 use lib.Dec.{ltb, leb·suc-suc}
-use lib.IntN.{ℤ, pos, negsuc, _+ℤ_, _-ℤ_}
+use lib.IntN.{pos, negsuc, _+ℤ_, _-ℤ_}
 use borrow.Author.Tests.{lt-ltb, le-ltb, ltb-true, ltb-false}
 use Rattle.number.specs.Reading.{isU8}
 use Rattle.number.proofs.Signs.{total, differ}
@@ -41,9 +41,6 @@ above n = go (ltb 255 n) refl
     go false e = e ∙ sym (rw (lt-ltb n 256 (omega (arith, ltb-false 255 n e))))
 
 module _ (x y : ℕ) where
-  pub both-down : true ≡ not (isU8 (negsuc x +ℤ negsuc y))
-  both-down = refl
-
   pub both-up : ltb 255 (x + y) ≡ not (isU8 (pos x +ℤ pos y))
   both-up = above (x + y)
 

@@ -1,13 +1,12 @@
 -- Three parts, each into the rest of the output.
-use mathlib.Core.Path.{_≡_, refl, sym, ap, _∙_}
-use mathlib.Core.List.{List, [], _++_, append-assoc}
+use mathlib.Core.Path.{_≡_, ap, _∙_}
+use mathlib.Core.List.{List, _++_, append-assoc}
 use Prim.Native.Nat.{ℕ, _+_, _-_, _≤_}
 use native.Mathlib.Omega.{arith}
 use borrow.Author.Needs.{needs}
-use lib.ListN.{length, take}
+use lib.ListN.{length}
 use Rattle.lists.specs.Write.{over, part}
-use Rattle.lists.proofs.Places.{length-part}
-use Rattle.lists.proofs.Wrote.{Wrote, start, next, at-front, into-rest, from-start, length-rest}
+use Rattle.lists.proofs.Wrote.{start, next, at-front, into-rest, from-start, length-rest}
 use Rattle.items.specs.Items.{Item, itemsIn}
 use Rattle.ape.specs.Tag.{serialize, replaced}
 use Rattle.ape_replace.proofs.Cutting.{ended, replaced-is, replaced-length}

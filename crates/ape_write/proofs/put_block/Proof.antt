@@ -1,12 +1,9 @@
 -- Six parts, one after another.
-use mathlib.Core.Path.{_≡_, _∙_}
-use mathlib.Core.List.{List, [], _∷_, append-assoc}
-use Prim.Native.Nat.{ℕ}
+use mathlib.Core.List.{[], _∷_}
 use native.Mathlib.Omega.{arith}
 use borrow.Author.Needs.{needs}
 use Rattle.lists.specs.Le.{u32le}
-use Rattle.lists.specs.Write.{over}
-use Rattle.lists.proofs.Wrote.{Wrote, start, next, from-start}
+use Rattle.lists.proofs.Wrote.{start, next, from-start}
 use Rattle.frame.specs.Tail.{preamble}
 use Rattle.ape.specs.Tag.{blockBytes}
 use Rattle.ape_write.proofs.put_block.Statement.{statement}

@@ -1,12 +1,10 @@
 -- Three parts, each into the rest of the output.
-use mathlib.Core.Path.{_≡_, refl, sym, ap, _∙_}
-use mathlib.Core.List.{List, append-assoc}
-use Prim.Native.Nat.{ℕ, _+_}
+use mathlib.Core.Path.{_≡_, _∙_}
+use Prim.Native.Nat.{_+_}
 use native.Mathlib.Omega.{arith}
 use borrow.Author.Needs.{needs}
-use lib.ListN.{length, take, drop}
-use Rattle.lists.specs.Write.{over}
-use Rattle.lists.proofs.Wrote.{Wrote, first, at-front, into-rest, from-start}
+use lib.ListN.{length}
+use Rattle.lists.proofs.Wrote.{first, at-front, into-rest, from-start}
 use Rattle.ape.specs.Tag.{blockBytes, headerFlags, footerFlags}
 use Rattle.ape_write.specs.Answers.{tagParts}
 use Rattle.ape_write.proofs.put_parts.Statement.{statement}

@@ -1,14 +1,11 @@
 use mathlib.Core.Path.{_≡_, refl, sym, ap, _∙_}
-use mathlib.Core.List.{List}
-use Prim.Native.Nat.{ℕ, _+_, _≤_, _<_}
+use Prim.Native.Nat.{_+_, _≤_}
 use native.Mathlib.Omega.{arith}
 use borrow.Author.Needs.{needs}
 use lib.ListN.{length}
-use Rattle.lists.specs.Write.{over}
 use Rattle.items.specs.Items.{itemsIn}
 use Rattle.items.proofs.Area.{parse-fits}
 use Rattle.ape.specs.Tag.{serialize}
-use Rattle.ape_write.specs.Answers.{tagParts}
 use Rattle.ape_write.proofs.Tags.{length-parts, serialize-parts, serialize-none}
 use Rattle.ape_write.proofs.put_tag.Statement.{statement}
 use Rattle.ape_write.proofs.put_tag.Tie as tie

@@ -1,6 +1,4 @@
-use mathlib.Core.Path.{_≡_, ap, sym, _∙_}
 use borrow.Author.Needs.{needs}
-use Rattle.area_drop.specs.Drops.{dropped}
 use Rattle.area_drop.proofs.drops.Statement.{statement}
 use Rattle.area_drop.proofs.drops.Tie as tie
 

@@ -1,6 +1,4 @@
 use mathlib.Core.Path.{_∙_}
-use mir.Syntax.{w32}
-use mir.Val.{SFits}
 use mir.Facts.{toZ-ofZ}
 use borrow.Author.Needs.{needs}
 use Rattle.c_frame.proofs.zib_adjust_gain_value.Statement.{statement}

@@ -1,7 +1,5 @@
-use mathlib.Core.Path.{_≡_}
 use mir.Facts.{toZ-ofZ}
 use borrow.Author.Needs.{needs}
-use Rattle.decimal.specs.Writing.{textOf}
 use Rattle.values.specs.Undo.{formatUndo}
 use Rattle.decimal.proofs.Texts.{text-within}
 use Rattle.c_values.proofs.Texts.{wrote}

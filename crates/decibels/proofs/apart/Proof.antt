@@ -1,11 +1,10 @@
 use borrow.Author.Needs.{needs}
-use Prim.Native.Nat.{_+_, _-_, _*_, _≤_, _<_}
-use mathlib.Core.Path.{_≡_, refl, sym, ap, _∙_}
+use Prim.Native.Nat.{_-_, _*_}
 use native.Mathlib.Omega.{arith}
 use lib.IntN.{_-ℤ_}
 use Rattle.number.specs.Reading.{withSign}
 use Rattle.decibels.specs.Gain.{units}
-use Rattle.decibels.proofs.Amounts.{Cut, same-high, same-low, keep-amount, cross-amount}
+use Rattle.decibels.proofs.Amounts.{same-high, same-low, keep-amount, cross-amount}
 use Rattle.decibels.proofs.apart.Statement.{statement}
 use Rattle.decibels.proofs.apart.Tie as tie
 

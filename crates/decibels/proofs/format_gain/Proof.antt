@@ -1,12 +1,11 @@
 use borrow.Author.Needs.{needs}
-use Prim.Native.Nat.{ℕ, _+_, _/_, _%_}
-use mathlib.Core.Path.{_≡_, refl, sym, ap, _∙_}
-use mathlib.Core.List.{List, [], _∷_, append-assoc}
+use Prim.Native.Nat.{_/_, _%_}
+use mathlib.Core.List.{[], _∷_, append-assoc}
 use native.Mathlib.Omega.{arith}
 use lib.ListN.{replicate}
 use Rattle.lists.specs.Bytes.{ascii}
 use Rattle.lists.proofs.Wrote.{start, next}
-use Rattle.decimal.specs.Writing.{places, decimal, signByte, textOf}
+use Rattle.decimal.specs.Writing.{places, decimal, signByte}
 use Rattle.decimal.proofs.Places.{length-places, text-is}
 use Rattle.decibels.specs.Gain.{formatGain}
 use Rattle.decibels.proofs.format_gain.Statement.{statement}

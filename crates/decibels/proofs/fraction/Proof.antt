@@ -1,7 +1,7 @@
 use borrow.Author.Needs.{needs}
-use mathlib.Core.Path.{_≡_, sym, ap, _∙_}
+use mathlib.Core.Path.{ap, _∙_}
 use native.Mathlib.Omega.{arith}
-use lib.ListN.{length, take, drop}
+use lib.ListN.{length, take}
 use borrow.Author.Tests.{not-true, not-false, le-leb, lt-leb}
 use Rattle.lists.proofs.Wrote.{rest}
 use Rattle.number.specs.Reading.{naturalOf}

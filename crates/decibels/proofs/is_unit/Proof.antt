@@ -1,5 +1,4 @@
 use borrow.Author.Needs.{needs}
-use mathlib.Core.Path.{_≡_}
 use Rattle.decibels.proofs.is_unit.Statement.{statement}
 use Rattle.decibels.proofs.is_unit.Tie as tie
 

@@ -1,7 +1,7 @@
 use borrow.Author.Needs.{needs}
-use mathlib.Core.Path.{_≡_, sym, ap, _∙_}
+use mathlib.Core.Path.{sym, ap, _∙_}
 use Rattle.lists.proofs.Wrote.{rest}
-use Rattle.number.specs.Reading.{isMinus, unsigned}
+use Rattle.number.specs.Reading.{unsigned}
 use Rattle.decibels.specs.Gain.{millionths, parseGain, countIs}
 use Rattle.decibels.specs.declared.GainField.the-variants.{Value}
 use Rattle.decibels.proofs.Texts.{count-is, no-count}

@@ -1,9 +1,5 @@
 use borrow.Author.Needs.{needs}
-use mathlib.Core.Path.{_≡_, refl, sym, ap, _∙_}
-use native.Mathlib.Omega.{arith}
-use mir.Syntax.{w32}
-use mir.Val.{SFits}
-use mir.Facts.{toZ-ofZ}
+use mathlib.Core.Path.{_≡_, sym, ap, _∙_}
 use lib.IntN.{ℤ, _-ℤ_}
 use Rattle.decibels.specs.Gain.{amount, exact, stepUnits, parseGain, shiftGain, remaining, nearest}
 use Rattle.decibels.proofs.Amounts.{steps-exact}

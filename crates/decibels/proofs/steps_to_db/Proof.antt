@@ -1,12 +1,12 @@
 use borrow.Author.Needs.{needs}
-use Prim.Native.Nat.{_+_, _*_, _≤_, _<_}
-use mathlib.Core.Path.{_≡_, refl, sym, ap, _∙_}
+use Prim.Native.Nat.{_≤_}
+use mathlib.Core.Path.{_≡_, ap, _∙_}
 use native.Mathlib.Omega.{arith}
 use mir.Syntax.{w32}
 use mir.Val.{SFits}
 use mir.Facts.{toZ-ofZ}
 use lib.IntN.{natAbs}
-use lib.Signed.{mag, natAbs-le}
+use lib.Signed.{natAbs-le}
 use Rattle.decimal.specs.Writing.{isNegative}
 use Rattle.decimal.proofs.Places.{negative}
 use Rattle.number.proofs.Signs.{taken}

@@ -1,11 +1,11 @@
 use borrow.Author.Needs.{needs}
-use Prim.Native.Nat.{ℕ, _+_, _*_, _<_}
-use mathlib.Core.Path.{_≡_, refl, sym, ap, _∙_}
+use Prim.Native.Nat.{ℕ, _+_, _*_}
+use mathlib.Core.Path.{_≡_, sym, ap, _∙_}
 use mathlib.Core.Bool.{true, false}
 use native.Mathlib.Omega.{arith}
 use lib.IntN.{pos, _-ℤ_}
 use Rattle.number.specs.Reading.{withSign}
-use Rattle.decibels.specs.Gain.{amount, exact, units}
+use Rattle.decibels.specs.Gain.{amount, units}
 use Rattle.decibels.proofs.Amounts.{other-sign, keep-amount}
 use Rattle.decibels.proofs.subtract.Statement.{statement}
 use Rattle.decibels.proofs.subtract.Tie as tie

@@ -1,10 +1,8 @@
 -- The invariant: the digits behind the first i are written.
-use mathlib.Core.Path.{_≡_, refl, sym, ap, _∙_}
-use Prim.Native.Nat.{ℕ, suc, _≤_, _<_, _+_, _-_}
+use mathlib.Core.Path.{_≡_, refl}
+use Prim.Native.Nat.{suc, _≤_, _-_}
 use native.Mathlib.Omega.{arith}
-use borrow.Author.Needs.{needs}
 use lib.ListN.{length, length-set}
-use Rattle.decimal.specs.Writing.{places}
 use Rattle.decimal.proofs.Places.{Digits, none-yet, turn, all-written}
 use Rattle.decimal.proofs.put_places.Statement.{statement}
 use Rattle.decimal.proofs.put_places.Tie as tie

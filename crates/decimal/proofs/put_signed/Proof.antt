@@ -1,16 +1,16 @@
-use mathlib.Core.Path.{_≡_, refl, sym, ap, _∙_}
-use mathlib.Core.List.{List, [], _∷_}
-use Prim.Native.Nat.{ℕ, _≤_, _<_, _+_, _*_, _^_}
+use mathlib.Core.Path.{_≡_, refl, ap, _∙_}
+use mathlib.Core.List.{[], _∷_}
+use Prim.Native.Nat.{ℕ, _+_}
 use native.Mathlib.Omega.{arith}
 use borrow.Author.Needs.{needs}
 use mir.Syntax.{w32}
 use mir.Val.{SFits}
 use mir.Facts.{toZ-ofZ}
-use lib.ListN.{length, set, length-set}
+use lib.ListN.{set, length-set}
 use lib.IntN.{natAbs}
 use Rattle.number.proofs.Signs.{taken}
 use Rattle.lists.specs.Write.{splice}
-use Rattle.lists.proofs.Wrote.{start, next, done}
+use Rattle.lists.proofs.Wrote.{start, next}
 use Rattle.decimal.specs.Writing.{signed, decimal, signByte, isNegative}
 use Rattle.decimal.proofs.Lists.{put-one}
 use Rattle.decimal.proofs.Places.{negative}

@@ -1,10 +1,9 @@
 -- The invariant: p is 10 to the power of k, and n is written with k digits at the least.
-use mathlib.Core.Path.{_≡_, refl, sym, ap, _∙_}
-use Prim.Native.Nat.{ℕ, _≤_, _<_, _+_, _-_, _*_, _^_}
+use mathlib.Core.Path.{_≡_, refl, _∙_}
+use Prim.Native.Nat.{_≤_, _+_, _-_, _^_}
 use native.Mathlib.Omega.{arith}
 use native.Mathlib.Numerals.{add-one}
 use native.Mathlib.Nat.{pow-suc}
-use borrow.Author.Needs.{needs}
 use Rattle.decimal.specs.Writing.{decimal}
 use Rattle.decimal.proofs.Places.{decimal-stop, decimal-next, decimal-end}
 use Rattle.decimal.proofs.width.Statement.{statement}

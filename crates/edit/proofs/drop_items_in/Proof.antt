@@ -1,9 +1,9 @@
 -- The items that stay are written into the lent array, and read back from it.
-use mathlib.Core.Path.{_≡_, refl, sym, ap, _∙_}
+use mathlib.Core.Path.{_≡_, sym, ap, _∙_}
 use mathlib.Core.Bool.{true≢false}
 use mathlib.Core.Option.{some}
 use mathlib.Core.List.{List}
-use Prim.Native.Nat.{ℕ, _-_, _≤_, _<_}
+use Prim.Native.Nat.{ℕ, _-_, _≤_}
 use native.Mathlib.Omega.{arith}
 use borrow.Author.Needs.{needs}
 use lib.ListN.{length, take}
@@ -12,7 +12,7 @@ use Rattle.lists.proofs.Places.{length-part}
 use Rattle.items.specs.Items.{Item, areaBytes, parse, itemsIn, without}
 use Rattle.items.proofs.ItemLaws.{area-without, sane-without, parse-sane}
 use Rattle.area_drop.specs.Drops.{dropped}
-use Rattle.area_drop.proofs.Plans.{Sized, sized, unsized}
+use Rattle.area_drop.proofs.Plans.{sized, unsized}
 use Rattle.calls.specs.Gate.{itemsOf}
 use Rattle.items.proofs.Area.{area-length, read-back, back-good}
 use Rattle.edit.proofs.drop_items_in.Statement.{statement}

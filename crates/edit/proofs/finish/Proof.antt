@@ -1,9 +1,8 @@
-use mathlib.Core.Path.{_≡_, refl, sym, ap, _∙_}
-use Prim.Native.Nat.{ℕ, _≤_, _<_}
+use mathlib.Core.Path.{_≡_, refl}
 use native.Mathlib.Omega.{arith}
 use borrow.Author.Needs.{needs}
 use lib.ListN.{length}
-use Rattle.items.specs.Items.{Item, areaBytes, itemsIn}
+use Rattle.items.specs.Items.{areaBytes, itemsIn}
 use Rattle.items.proofs.Area.{count-items, area-length}
 use Rattle.edit.proofs.Rewriting.{too-many, too-long, fits-tag}
 use Rattle.edit.proofs.finish.Statement.{statement}

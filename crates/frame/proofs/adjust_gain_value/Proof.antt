@@ -1,12 +1,10 @@
 -- The steps taken apart are put together again.
-use mathlib.Core.Path.{_≡_, sym, ap, _∙_}
+use mathlib.Core.Path.{_∙_}
 use mir.Syntax.{w32}
 use mir.Val.{SFits}
 use mir.Facts.{toZ-ofZ}
 use borrow.Author.Needs.{needs}
-use Rattle.integers.specs.Apart.{wholeOf}
 use Rattle.integers.proofs.Sign.{whole-apart}
-use Rattle.frame.specs.Gain.{adjust}
 use Rattle.frame.proofs.adjust_gain_value.Statement.{statement}
 use Rattle.frame.proofs.adjust_gain_value.Tie as tie
 

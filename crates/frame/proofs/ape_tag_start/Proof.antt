@@ -1,12 +1,10 @@
 -- Each answer by the tests that lead to it.
 use mathlib.Core.Path.{_≡_, refl, sym, _∙_}
-use Prim.Native.Nat.{ℕ, _+_, _-_, _≤_, _<_}
+use Prim.Native.Nat.{_+_}
 use native.Mathlib.Omega.{arith}
 use borrow.Author.Needs.{needs}
-use lib.ListN.{length}
 use Rattle.lists.specs.Le.{readU32}
 use Rattle.frame.specs.Tail.{startOf, tagStart}
-use Rattle.frame.specs.declared.TagStart.the-variants.{At}
 use Rattle.frame.proofs.Tails.{start-none, start-read, start-long, start-bare, start-short, start-headed}
 use Rattle.frame.proofs.ape_tag_start.Statement.{statement}
 use Rattle.frame.proofs.ape_tag_start.Tie as tie

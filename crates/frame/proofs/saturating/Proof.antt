@@ -1,7 +1,5 @@
 -- A step down by n + 1 and a step up by n, each by the tests that lead to its answer.
 use mathlib.Core.Path.{_≡_, sym, ap, _∙_}
-use Prim.Native.Nat.{ℕ, _≤_}
-use lib.IntN.{pos, negsuc}
 use native.Mathlib.Omega.{arith}
 use borrow.Author.Needs.{needs}
 use Rattle.integers.specs.Apart.{wholeOf}

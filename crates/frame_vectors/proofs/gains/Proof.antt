@@ -1,7 +1,5 @@
-use Prim.Native.Nat.{_≤_, _<_, _-_, _*_, _+_}
+use Prim.Native.Nat.{_≤_, _-_}
 use native.Mathlib.Omega.{arith}
-use borrow.Author.Needs.{needs}
-use lib.ListN.{length}
 use Rattle.frame_vectors.proofs.gains.Statement.{statement}
 use Rattle.frame_vectors.proofs.gains.Tie as tie
 

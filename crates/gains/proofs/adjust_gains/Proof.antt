@@ -1,12 +1,11 @@
 -- The invariant: the first i gains are moved.
-use mathlib.Core.Path.{_≡_, refl, sym, ap, _∙_}
-use Prim.Native.Nat.{ℕ, _-_, _≤_, _<_}
+use mathlib.Core.Path.{_≡_, refl, _∙_}
+use Prim.Native.Nat.{_-_, _≤_}
 use native.Mathlib.Omega.{arith}
 use mir.Syntax.{w32}
 use mir.Val.{SFits}
-use mir.Facts.{toZ-ofZ}
 use borrow.Author.Needs.{needs}
-use lib.ListN.{length, getD, set, length-set}
+use lib.ListN.{length, getD, length-set}
 use Rattle.frame.specs.Gain.{adjust}
 use Rattle.gains.proofs.Mapping.{mapped, mapped-more, mapped-at, mapped-all}
 use Rattle.gains.proofs.adjust_gains.Statement.{statement}

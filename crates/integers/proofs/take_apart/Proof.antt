@@ -1,5 +1,4 @@
 -- `integers::take_apart` meets its contract. Assumes nothing.
-use mathlib.Core.Path.{refl}
 use Rattle.integers.proofs.Sign.{test, down, up, small}
 use Rattle.integers.proofs.take_apart.Statement.{statement}
 use Rattle.integers.proofs.take_apart.Tie as tie

@@ -1,4 +1,4 @@
-use mathlib.Core.Path.{_≡_, ap, _∙_}
+use mathlib.Core.Path.{ap, _∙_}
 use borrow.Author.Needs.{needs}
 use Rattle.items.specs.Answers.{valueOf, replyTo, isThere}
 use Rattle.items.proofs.get.Statement.{statement}

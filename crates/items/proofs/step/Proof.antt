@@ -1,4 +1,4 @@
-use mathlib.Core.Path.{_≡_, sym, _∙_}
+use mathlib.Core.Path.{sym, _∙_}
 use borrow.Author.Needs.{needs}
 use Rattle.items.proofs.Walk.{plain-stop, plain-flags, plain-item}
 use Rattle.items.proofs.step.Statement.{statement}

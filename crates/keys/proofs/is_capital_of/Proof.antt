@@ -1,6 +1,5 @@
 -- Each answer is a law of two letters with case folded.
-use mathlib.Core.Path.{_≡_, sym}
-use native.Mathlib.Omega.{arith}
+use mathlib.Core.Path.{sym}
 use borrow.Author.Needs.{needs}
 use Rattle.keys.proofs.Keys.{capital-below, capital-above, capital-small}
 use Rattle.keys.proofs.is_capital_of.Statement.{statement}

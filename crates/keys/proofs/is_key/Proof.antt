@@ -1,8 +1,5 @@
-use mathlib.Core.Path.{_≡_, refl, sym, ap, _∙_}
-use mathlib.Core.Bool.{Bool, true, false, not, _&&_}
 use borrow.Author.Needs.{needs}
 use borrow.Author.Tests.{le-leb, lt-leb, not-true, not-false}
-use Rattle.lists.proofs.Same.{and-false}
 use Rattle.keys.specs.Keys.{isKey}
 use Rattle.keys.proofs.is_key.Statement.{statement}
 use Rattle.keys.proofs.is_key.Tie as tie

@@ -1,12 +1,12 @@
 -- The invariant: the two are the same where what is before i is.
-use mathlib.Core.Path.{_≡_, refl, ap, sym, _∙_}
-use Prim.Native.Nat.{ℕ, _≤_, _-_}
+use mathlib.Core.Path.{_≡_, ap, sym, _∙_}
+use Prim.Native.Nat.{ℕ, _≤_}
 use native.Mathlib.Omega.{arith}
 use borrow.Author.Needs.{needs}
 use borrow.Author.Tests.{not-false, not-true}
 use lib.ListN.{length, take}
 use lib.Seq.{take-length}
-use Rattle.keys.specs.Keys.{upper, sameKey}
+use Rattle.keys.specs.Keys.{sameKey}
 use Rattle.keys.proofs.Keys.{key-unequal, key-alike, key-differs, key-nil}
 use Rattle.keys.proofs.same_key.Statement.{statement}
 use Rattle.keys.proofs.same_key.Tie as tie

@@ -1,7 +1,6 @@
 -- Equal, or one is the capital of the other.
-use mathlib.Core.Path.{_≡_, sym, ap, _∙_}
+use mathlib.Core.Path.{sym, ap, _∙_}
 use native.Mathlib.Omega.{arith}
-use borrow.Author.Needs.{needs}
 use borrow.Author.Tests.{eq-eqb}
 use Rattle.keys.specs.Keys.{upper}
 use Rattle.keys.proofs.Keys.{eqb-comm}

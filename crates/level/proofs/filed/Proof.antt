@@ -1,10 +1,8 @@
 use borrow.Author.Needs.{needs}
-use mathlib.Core.Path.{_≡_, refl, sym, ap, _∙_}
+use mathlib.Core.Path.{_∙_}
 use lib.ListN.{length}
 use Rattle.items.specs.Items.{itemsIn}
 use Rattle.edit.specs.Finish.{tagPlan}
-use Rattle.level.specs.Answers.{filedAnswer}
-use Rattle.level.specs.declared.LevelAnswer.the-variants.{Done}
 use Rattle.level.proofs.Levelling.{filed-done, filed-refused}
 use Rattle.level.proofs.filed.Statement.{statement}
 use Rattle.level.proofs.filed.Tie as tie

@@ -1,12 +1,11 @@
 -- The invariant: what is counted and what the items that are left hold.
-use mathlib.Core.Path.{_≡_, refl, sym, ap, _∙_}
-use mathlib.Core.Bool.{true, false}
+use mathlib.Core.Path.{_≡_, sym, ap, _∙_}
 use mathlib.Core.List.{_∷_}
-use Prim.Native.Nat.{ℕ, _+_, _-_, _≤_, _<_}
+use Prim.Native.Nat.{_+_, _-_, _≤_}
 use native.Mathlib.Omega.{arith}
 use borrow.Author.Needs.{needs}
-use lib.ListN.{length, drop}
-use Rattle.items.specs.Items.{Item, itemsIn}
+use lib.ListN.{drop}
+use Rattle.items.specs.Items.{itemsIn}
 use Rattle.items.proofs.Loops.{Left, begin, Turn, turn, never, items-none}
 use Rattle.calls.specs.Calls.{countOf, isPeakKey}
 use Rattle.level_items.proofs.Peaks.{count-none, count-one, count-next}

@@ -1,7 +1,7 @@
 use borrow.Author.Needs.{needs}
 use borrow.Author.Tests.{ne-eqb}
 use mathlib.Core.Option.{some}
-use mathlib.Core.Path.{_≡_, sym, ap, _∙_}
+use mathlib.Core.Path.{_≡_, sym, _∙_}
 use Rattle.keys.specs.Keys.{whichKey}
 use Rattle.keys.proofs.Keys.{which-some, which-none}
 use Rattle.calls.specs.Calls.{isPeakKey}

@@ -1,15 +1,13 @@
 -- Either way the items are written in one pass.
-use mathlib.Core.Path.{_≡_, refl, sym, ap, _∙_}
+use mathlib.Core.Path.{_≡_, sym, ap, _∙_}
 use mathlib.Core.Bool.{true≢false}
 use mathlib.Core.List.{List}
-use Prim.Native.Nat.{ℕ, _≤_, _<_}
 use native.Mathlib.Omega.{arith}
 use mir.Syntax.{w32}
 use mir.Val.{SFits, toZ, ofZ}
 use mir.Facts.{toZ-ofZ}
 use borrow.Author.Needs.{needs}
 use lib.ListN.{length}
-use lib.IntN.{ℤ}
 use Rattle.keys.specs.Keys.{isUndone}
 use Rattle.items.specs.Items.{Item, areaBytes, itemsIn, without}
 use Rattle.area_drop.proofs.Plans.{sized, unsized}

@@ -1,5 +1,4 @@
 use borrow.Author.Needs.{needs}
-use Prim.Native.Nat.{ℕ, _≤_}
 use native.Mathlib.Omega.{arith}
 use Rattle.keys.specs.Keys.{minmaxKey}
 use Rattle.decimal.proofs.Texts.{text-within}

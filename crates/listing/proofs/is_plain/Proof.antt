@@ -1,7 +1,4 @@
-use borrow.Author.Needs.{needs}
 use borrow.Author.Tests.{le-leb, lt-leb, eq-eqb, ne-eqb}
-use native.Mathlib.Omega.{arith}
-use mathlib.Core.Path.{_≡_}
 use Rattle.listing.proofs.is_plain.Statement.{statement}
 use Rattle.listing.proofs.is_plain.Tie as tie
 

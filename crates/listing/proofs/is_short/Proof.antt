@@ -5,7 +5,7 @@ use mathlib.Core.Path.{_≡_, sym, ap, _∙_}
 use Prim.Native.Nat.{_+_, _≤_}
 use native.Mathlib.Omega.{arith}
 use lib.ListN.{length}
-use Rattle.ape.specs.Tag.{findFooter, readTag}
+use Rattle.ape.specs.Tag.{findFooter}
 use Rattle.ape.specs.Answers.{readArea}
 use Rattle.ape.specs.declared.Footer.the-variants.{At}
 use Rattle.ape.proofs.Files.{footer-within, tag-none}

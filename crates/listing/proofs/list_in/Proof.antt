@@ -1,20 +1,19 @@
 -- The tag is read into the lent array, which holds its items, and listed from there.
 use borrow.Author.Needs.{needs}
-use mathlib.Core.Path.{_≡_, refl, sym, ap, _∙_}
-use mathlib.Core.Option.{Option, none, some}
+use mathlib.Core.Path.{_≡_, ap, _∙_}
+use mathlib.Core.Option.{some}
 use mathlib.Core.List.{List, [], _∷_}
-use Prim.Native.Nat.{ℕ, _-_, _*_, _≤_, _<_}
+use Prim.Native.Nat.{ℕ, _-_, _*_, _≤_}
 use native.Mathlib.Nat.{zero-add}
 use native.Mathlib.Omega.{arith}
 use lib.ListN.{length, take}
 use Rattle.lists.specs.Write.{over}
 use Rattle.lists.proofs.Wrote.{at-front}
 use Rattle.replies.specs.Refusal.{yes}
-use Rattle.items.specs.Items.{parse, itemsIn}
+use Rattle.items.specs.Items.{parse}
 use Rattle.items.proofs.Area.{parse-fits, back-good}
 use Rattle.ape.specs.Tag.{readTag}
 use Rattle.ape.specs.Answers.{readArea, readPlan, readAnswer, readBytes}
-use Rattle.listing.specs.Listing.{listed, listing}
 use Rattle.listing.proofs.Tags.{read-yes, short-listing, Read, read-items, read-none, read-refused, items-back, none-listing}
 use Rattle.listing.proofs.list_in.Statement.{statement}
 use Rattle.listing.proofs.list_in.Tie as tie

@@ -1,6 +1,6 @@
 -- The invariant: the lines of the items so far are written, and the rest of them are to come.
 use borrow.Author.Needs.{needs}
-use mathlib.Core.Path.{_≡_, refl, sym, ap, _∙_}
+use mathlib.Core.Path.{sym, _∙_}
 use native.Mathlib.Omega.{arith}
 use Rattle.items.proofs.Loops.{Turn, turn, never}
 use Rattle.listing.proofs.Lining.{Lining, line-begin, line-room, line-more, line-end}

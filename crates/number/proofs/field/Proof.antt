@@ -1,11 +1,9 @@
 -- The invariant: what is looked for is field `left` of the rest from at.
-use mathlib.Core.Path.{_≡_, refl, sym, ap, _∙_}
-use mathlib.Core.List.{List, []}
-use Prim.Native.Nat.{ℕ, _≤_, _<_, _+_, _-_}
+use mathlib.Core.Path.{_≡_, refl, sym, _∙_}
+use Prim.Native.Nat.{_≤_}
 use native.Mathlib.Omega.{arith}
 use borrow.Author.Needs.{needs}
-use lib.ListN.{length, take, drop}
-use Rattle.lists.specs.Bytes.{placeOf}
+use lib.ListN.{length, drop}
 use Rattle.number.specs.Fields.{field}
 use Rattle.number.proofs.Cuts.{place-end, field-none, field-next, field-here}
 use Rattle.number.proofs.field.Statement.{statement}

@@ -1,14 +1,11 @@
 -- The invariant: the text's number is that of the digits left from i behind those that gave n.
-use mathlib.Core.Path.{_≡_, refl, sym, ap, _∙_}
-use mathlib.Core.Option.{Option}
-use Prim.Native.Nat.{ℕ, _≤_, _+_, _-_, _*_}
+use mathlib.Core.Path.{_≡_, sym, _∙_}
+use Prim.Native.Nat.{_≤_, _+_, _-_, _*_}
 use native.Mathlib.Omega.{arith}
 use borrow.Author.Needs.{needs}
 use borrow.Author.Tests.{not-true, not-false}
-use lib.ListN.{length, drop, getD}
-use lib.Dec.{leb}
-use Rattle.lists.specs.Choice.{provided}
-use Rattle.number.specs.Reading.{natural, digitsFrom, naturalOf}
+use lib.ListN.{length, drop}
+use Rattle.number.specs.Reading.{natural, digitsFrom}
 use Rattle.number.proofs.Digits.{natural-is, natural-none, digits-step, digits-stop, digits-end, digits-over, digits-within}
 use Rattle.number.proofs.parse_natural.Statement.{statement}
 use Rattle.number.proofs.parse_natural.Tie as tie

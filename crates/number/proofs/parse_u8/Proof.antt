@@ -1,11 +1,10 @@
-use mathlib.Core.Path.{_≡_, sym, ap, _∙_}
-use mathlib.Core.Bool.{false}
+use mathlib.Core.Path.{sym, ap, _∙_}
 use Prim.Native.Nat.{_≤_}
 use native.Mathlib.Omega.{arith}
 use borrow.Author.Needs.{needs}
 use Rattle.lists.proofs.Wrote.{rest}
 use Rattle.number.specs.Trim.{trim}
-use Rattle.number.specs.Reading.{isMinus, unsigned, natural}
+use Rattle.number.specs.Reading.{unsigned}
 use Rattle.number.proofs.Limits.{u8-nothing, u8-value, u8-minus, within}
 use Rattle.number.proofs.parse_u8.Statement.{statement}
 use Rattle.number.proofs.parse_u8.Tie as tie

@@ -1,4 +1,4 @@
-use mathlib.Core.Path.{_≡_, sym, ap, _∙_}
+use mathlib.Core.Path.{sym, ap, _∙_}
 use mathlib.Core.Bool.{true, false}
 use Prim.Native.Nat.{_≤_}
 use native.Mathlib.Omega.{arith}
@@ -7,7 +7,6 @@ use mir.Val.{SFits}
 use mir.Facts.{toZ-ofZ}
 use borrow.Author.Needs.{needs}
 use Rattle.lists.proofs.Wrote.{rest}
-use Rattle.number.specs.Reading.{isMinus, unsigned, natural}
 use Rattle.number.specs.declared.I32Field.the-variants.{Value}
 use Rattle.number.proofs.Limits.{whole-nothing, whole-value, below-zero, within}
 use Rattle.number.proofs.parse_whole.Statement.{statement}

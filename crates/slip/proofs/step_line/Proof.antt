@@ -1,13 +1,11 @@
 use borrow.Author.Needs.{needs}
-use Prim.Native.Nat.{_≤_, _<_, _-_}
-use mathlib.Core.Path.{_≡_, sym, ap, _∙_}
-use mathlib.Core.Bool.{true}
+use Prim.Native.Nat.{_≤_, _-_}
+use mathlib.Core.Path.{_≡_, sym, _∙_}
 use native.Mathlib.Omega.{arith}
-use lib.ListN.{length, drop, length-drop}
+use lib.ListN.{length, drop}
 use borrow.Author.Tests.{not-true, not-false, le-leb, lt-leb}
-use Rattle.lists.specs.Bytes.{startsWith}
 use Rattle.lists.proofs.Wrote.{rest}
-use Rattle.number.specs.Reading.{unsigned, i32Of}
+use Rattle.number.specs.Reading.{unsigned}
 use Rattle.slip.specs.Slip.{stepText, stepLine}
 use Rattle.slip.proofs.Lines.{starts-fits, five-fit, digits-left}
 use Rattle.slip.proofs.step_line.Statement.{statement}

@@ -1,6 +1,4 @@
-use mathlib.Core.Path.{_≡_, refl, sym, ap, _∙_}
-use mathlib.Core.Bool.{true, false}
-use mathlib.Core.Option.{Option, none, some}
+use mathlib.Core.Path.{_≡_, sym, ap, _∙_}
 use mathlib.Core.List.{List}
 use Prim.Native.Nat.{ℕ}
 use native.Mathlib.Omega.{arith}
@@ -17,7 +15,6 @@ use Rattle.items.specs.Answers.{valueOf}
 use Rattle.items.proofs.Places.{got}
 use Rattle.items.proofs.Finding.{get-is}
 use Rattle.calls.specs.Calls.{storedUndo}
-use Rattle.undo.specs.Stored.{undoIs}
 use Rattle.undo.proofs.Stored.{got-there, got-none}
 use Rattle.undo.proofs.stored_undo.Statement.{statement}
 use Rattle.undo.proofs.stored_undo.Tie as tie

@@ -1,20 +1,17 @@
 -- Each answer by the tests that lead to it; the gains move last.
-use mathlib.Core.Path.{_≡_, refl, sym, ap, _∙_}
-use mathlib.Core.Bool.{true, false}
-use mathlib.Core.Option.{Option, none, some}
-use mathlib.Core.List.{List, []}
-use Prim.Native.Nat.{ℕ, _≤_, _<_}
+use mathlib.Core.Path.{_≡_, refl, ap, _∙_}
+use mathlib.Core.Bool.{true}
+use mathlib.Core.List.{List}
+use Prim.Native.Nat.{ℕ}
 use native.Mathlib.Omega.{arith}
 use mir.Syntax.{w32}
 use mir.Val.{SFits}
 use mir.Facts.{toZ-ofZ}
 use borrow.Author.Needs.{needs}
 use lib.ListN.{length}
-use Rattle.lists.specs.Write.{over, part}
+use Rattle.lists.specs.Write.{over}
 use Rattle.frame.specs.Gain.{modeOf}
-use Rattle.values.specs.Undo.{parseUndo, undoWraps}
 use Rattle.values.proofs.ReadBack.{undo-small}
-use Rattle.items.specs.Items.{itemsIn}
 use Rattle.calls.specs.Gate.{itemsOf}
 use Rattle.calls.specs.Calls.{isThere, storedUndo, others}
 use Rattle.gate.specs.Gate.{Passed}

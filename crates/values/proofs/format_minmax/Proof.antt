@@ -1,11 +1,9 @@
-use Prim.Native.Nat.{ℕ}
-use mathlib.Core.Path.{_≡_, sym, ap, _∙_}
-use mathlib.Core.List.{List, [], _∷_, append-assoc}
+use mathlib.Core.List.{[], _∷_, append-assoc}
 use native.Mathlib.Omega.{arith}
 use borrow.Author.Needs.{needs}
 use lib.ListN.{replicate}
 use Rattle.lists.proofs.Wrote.{start, next}
-use Rattle.decimal.specs.Writing.{places, textOf}
+use Rattle.decimal.specs.Writing.{places}
 use Rattle.decimal.proofs.Places.{length-places, text-is}
 use Rattle.values.specs.Range.{formatRange}
 use Rattle.values.proofs.format_minmax.Statement.{statement}

@@ -1,6 +1,4 @@
-use Prim.Native.Nat.{ℕ}
-use mathlib.Core.Path.{_≡_, sym, ap, _∙_}
-use mathlib.Core.List.{List, [], _∷_, append-assoc}
+use mathlib.Core.List.{[], _∷_, append-assoc}
 use native.Mathlib.Omega.{arith}
 use borrow.Author.Needs.{needs}
 use mir.Syntax.{w32}
@@ -8,7 +6,7 @@ use mir.Val.{SFits, toZ, ofZ}
 use mir.Facts.{toZ-ofZ}
 use lib.ListN.{replicate}
 use Rattle.lists.proofs.Wrote.{start, next}
-use Rattle.decimal.specs.Writing.{signed, textOf}
+use Rattle.decimal.specs.Writing.{signed}
 use Rattle.decimal.proofs.Places.{text-is}
 use Rattle.values.specs.Undo.{flagByte, formatUndo}
 use Rattle.values.proofs.format_undo_value.Statement.{statement}

@@ -1,6 +1,6 @@
 use borrow.Author.Needs.{needs}
 use mathlib.Core.Option.{some}
-use mathlib.Core.Path.{_≡_, sym, ap, _∙_}
+use mathlib.Core.Path.{_≡_, sym, _∙_}
 use Rattle.keys.specs.Keys.{whichKey}
 use Rattle.keys.proofs.Keys.{which-some, which-none}
 use Rattle.values.specs.Stored.{isRange, isGain, kindOf}

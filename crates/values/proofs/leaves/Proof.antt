@@ -1,8 +1,7 @@
 use borrow.Author.Needs.{needs}
-use mathlib.Core.Path.{_≡_, sym, ap, _∙_}
+use mathlib.Core.Path.{sym, _∙_}
 use mir.Syntax.{w32}
 use mir.Val.{SFits}
-use mir.Facts.{toZ-ofZ}
 use Rattle.number.specs.Reading.{i32}
 use Rattle.number.proofs.Limits.{i32-value-is, i32-nothing-is}
 use Rattle.number.proofs.Signs.{taken}

@@ -1,4 +1,4 @@
-use mathlib.Core.Path.{_≡_, sym, ap, _∙_}
+use mathlib.Core.Path.{_≡_, _∙_}
 use mathlib.Core.Option.{Option·getD}
 use borrow.Author.Needs.{needs}
 use mir.Syntax.{w32}

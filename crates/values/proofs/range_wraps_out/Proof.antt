@@ -1,5 +1,4 @@
 use borrow.Author.Needs.{needs}
-use mathlib.Core.Path.{_≡_}
 use Rattle.values.specs.Stored.{rangeWrapsOut}
 use Rattle.values.proofs.range_wraps_out.Statement.{statement}
 use Rattle.values.proofs.range_wraps_out.Tie as tie

@@ -1,5 +1,5 @@
 use borrow.Author.Needs.{needs}
-use mathlib.Core.Path.{_≡_, sym, ap, _∙_}
+use mathlib.Core.Path.{sym, _∙_}
 use Rattle.values.specs.Range.{parseRange, shiftRange}
 use Rattle.values.proofs.Answers.{range-is, no-range}
 use Rattle.values.proofs.shift_range.Statement.{statement}

@@ -1,5 +1,4 @@
 use borrow.Author.Needs.{needs}
-use mathlib.Core.Path.{_≡_}
 use Rattle.values.specs.Stored.{shiftStored}
 use Rattle.values.proofs.shift_stored_value.Statement.{statement}
 use Rattle.values.proofs.shift_stored_value.Tie as tie

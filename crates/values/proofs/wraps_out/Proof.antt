@@ -1,9 +1,8 @@
 use borrow.Author.Needs.{needs}
 use Prim.Native.Nat.{_+_, _≤_}
-use mathlib.Core.Path.{_≡_, sym, ap, _∙_}
 use native.Mathlib.Omega.{arith}
 use lib.ListN.{length}
-use Rattle.number.specs.Fields.{before, behind}
+use Rattle.number.specs.Fields.{before}
 use Rattle.number.proofs.Cuts.{front-is, within-text, no-back, within-back, back-is}
 use Rattle.values.specs.Range.{wrapsOut}
 use Rattle.values.proofs.wraps_out.Statement.{statement}

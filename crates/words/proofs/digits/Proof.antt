@@ -1,6 +1,6 @@
 -- The invariant: the number at the place is, modulo `top * base`, that of the digits left from i behind those that gave n.
 use mathlib.Core.Path.{_≡_, refl, sym, ap, _∙_}
-use Prim.Native.Nat.{ℕ, _≤_, _<_, _+_, _-_, _*_, _%_}
+use Prim.Native.Nat.{ℕ, _<_, _+_, _-_, _*_, _%_}
 use native.Mathlib.Omega.{arith}
 use native.Mathlib.Nat.{mod-eq-of-lt}
 use borrow.Author.Needs.{needs}
