@@ -491,8 +491,10 @@ fn limits(c: &mut Compare) {
     assert!(out.iter().all(|&b| b == FILL));
     assert_eq!(library::replace_ape_tag(&file[..LIMIT - 76], &area, 1, &mut out), Ok(LIMIT));
     assert!(out[..LIMIT] == reach::replace(&file[..LIMIT - 76], tag));
-    // The lengths about which a long part is copied in blocks, and whole blocks.
-    for n in [65_535, 65_536, 65_537, 65_663, 65_664, 65_665, 1 << 20] {
+    // The lengths from which on a part is copied in blocks of sixteen and by halves, and what may be left over behind them.
+    let blocks = [0, 1, 2, 15, 16, 17, 18].map(|more| 65_535 + more);
+    let halves = [0, 1, 2, 16, 17, 1023, 1024, 1025, 2047, 2048, 2049, 3073].map(|more| 6_291_455 + more);
+    for n in [&blocks[..], &halves, &[1 << 20, 16_700_001]].concat() {
         c.inputs += 1;
         let want = reach::replace(&file[..n], tag);
         assert_eq!(library::replace_ape_tag(&file[..n], &area, 1, &mut out), Ok(want.len()));

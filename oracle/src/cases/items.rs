@@ -864,6 +864,21 @@ const EDITS: [Edit; 5] = [
     ("set_minmax", |tag| tag.set_minmax(94, 168), |area, count, out| library::set_minmax(area, count, 94, 168, out)),
 ];
 
+/// How many bytes the keys and values of a tag have, each looked at.
+fn texts_of(tag: &ApeTag) -> usize {
+    tag.iter().fold(0, |sum, i| sum + black_box(i.key().len() + i.value().len()))
+}
+
+/// The same of an area, from item to item.
+fn texts_in(area: &[u8]) -> usize {
+    let (mut sum, mut at) = (0, 0);
+    while let Ok(Some([a, b, c, d])) = library::item_at(area, at) {
+        sum += black_box(b - a + d - c);
+        at = d;
+    }
+    sum
+}
+
 /// The calls that look a key up, and those on a tag whose last eight items have the eight keys.
 fn bench_keys(b: &mut Bench) {
     let value = "The quick brown fox jumps over the lazy dog";
@@ -885,21 +900,32 @@ fn bench_keys(b: &mut Bench) {
                 || ours(&area, n, &mut out),
             );
         }
+        let file = reach::serialize(&tag);
+        let mut read = vec![0; 3 * file.len()];
         b.row(
             &format!("get_undo_gain, {n} items, the eighth from the end (Rust: a tag already parsed)"),
             || tag.get_undo_gain(),
             || library::get_undo_gain(&area, n),
         );
         b.row(
-            &format!("item_at, {n} items one after another (Rust: over a tag already parsed)"),
-            || tag.iter().fold(0, |s, i| s + black_box(i.key().len() + i.value().len())),
+            &format!("get_undo_gain, {n} items, the eighth from the end (both from a file's bytes)"),
+            || read_ape_tag(&file).unwrap().get_undo_gain(),
             || {
-                let (mut s, mut at) = (0, 0);
-                while let Ok(Some([a, b, c, d])) = library::item_at(&area, at) {
-                    s += black_box(b - a + d - c);
-                    at = d;
-                }
-                s
+                let (count, length) = ape::library::read_ape_tag(&file, &mut read).unwrap().unwrap();
+                library::get_undo_gain(&read[..length], count)
+            },
+        );
+        b.row(
+            &format!("item_at, {n} items one after another (Rust: over a tag already parsed)"),
+            || texts_of(&tag),
+            || texts_in(&area),
+        );
+        b.row(
+            &format!("item_at, {n} items one after another (both from a file's bytes)"),
+            || texts_of(&read_ape_tag(&file).unwrap()),
+            || {
+                let (_, length) = ape::library::read_ape_tag(&file, &mut read).unwrap().unwrap();
+                texts_in(&read[..length])
             },
         );
         let keys: Vec<&str> = tag.iter().map(|i| i.key()).collect();
