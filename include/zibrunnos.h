@@ -149,6 +149,39 @@ uint32_t zib_set_replaygain(
     size_t track_peak_len, const uint8_t *album_gain, size_t album_gain_len, const uint8_t *album_peak, size_t album_peak_len,
     const uint8_t *algorithm, size_t algorithm_len, uint8_t *out, size_t out_len, size_t *items, size_t *written);
 
+/* ---- An index of the items that stand in `bytes`, for many looks at one tag: for each item its mark, which is the length of its key (0 for a
+ * key that refusal 3 does not let pass), and the place where it begins. Of both lists the first `entries` numbers count, and of the
+ * bytes the first `used`. The bytes and the lists stay as the calls leave them. The calls that read:
+ * libc_index.a */
+
+/* The index of an area, written to the front of `marks` and of `places`: how many entries it has into `entries`, and the length of the
+ * area into `used`. Refusals 12 and 5. */
+uint32_t zib_index_items(
+    const uint8_t *area, size_t area_len, size_t count, uint8_t *marks, size_t marks_len, size_t *places, size_t places_len,
+    size_t *entries, size_t *used);
+
+/* The value of the first item with this key, by an index, as a part of `bytes`: `there` is 1, with the value's start and size, or all
+ * three are 0 where no entry names such an item. `marks_len` and `places_len` are `entries`, and `bytes_len` is `used`. By the index of
+ * an area the reply is that of zib_get. Refusal 3. */
+uint32_t zib_get_indexed(
+    const uint8_t *bytes, size_t bytes_len, const uint8_t *marks, size_t marks_len, const size_t *places, size_t places_len,
+    const uint8_t *key, size_t key_len, uint32_t *there, size_t *start, size_t *size);
+
+/* ---- Edits by an index: libc_index_edit.a */
+
+/* Sets the value of the first item with this key, or adds an item with the key in upper case: the item is written behind the first
+ * `used` bytes, and an entry names it, that of the old item or one more. The three lengths are the room that there is; `entries` and
+ * `used` are read, and then what they are with the item. Refusals 12 (they are more than that room), 3, 4 and 5. */
+uint32_t zib_set_indexed(
+    uint8_t *bytes, size_t bytes_len, uint8_t *marks, size_t marks_len, size_t *places, size_t places_len, const uint8_t *key,
+    size_t key_len, const uint8_t *value, size_t value_len, size_t *entries, size_t *used);
+
+/* The items that begin at the places, in their order, as an area: written to the front of `out`, how many they are into `items`, and its
+ * length into `written`. `bytes_len` is `used`, and `places_len` is `entries`. Refusals 12 (no item begins at a place) and 5. */
+uint32_t zib_write_indexed(
+    const uint8_t *bytes, size_t bytes_len, const size_t *places, size_t places_len, uint8_t *out, size_t out_len, size_t *items,
+    size_t *written);
+
 /* ---- The tag of a file: libc_ape.a */
 
 /* Where the footer of the file's tag stands: `there` is 1 and `footer` its place, or both are 0. Refusal 1. */

@@ -107,6 +107,47 @@ static void items(void)
     CHECK(zib_take_mp3gain(a, n, count, b, sizeof b, &start, &size) == 0 && start == 1 && IS(b, size, AREA));
 }
 
+/* key Ab, value c; the same with a longer value; and key CD, value d */
+#define SPELT "\1\0\0\0" "\0\0\0\0" "Ab\0" "c"
+#define LONGER "\6\0\0\0" "\0\0\0\0" "Ab\0" "longer"
+#define ADDED "\1\0\0\0" "\0\0\0\0" "CD\0" "d"
+
+static void indexed(void)
+{
+    uint8_t bytes[54] = SPELT, kept[54], out[29], marks[2] = {7, 7};
+    size_t places[2] = {7, 7}, wrong[1] = {1}, entries = 7, used = 7, count = 7, n = 7, start = 7, size = 7;
+    uint32_t there = 7;
+    CHECK(zib_index_items(bytes, 12, 2, marks, 2, places, 2, &entries, &used) == ZIB_MALFORMED_AREA && entries == 7 && used == 7);
+    CHECK(zib_index_items(bytes, 12, 1, marks, 0, places, 2, &entries, &used) == ZIB_NO_ROOM && places[0] == 7);
+    CHECK(zib_index_items(bytes, 12, 1, marks, 2, places, 0, &entries, &used) == ZIB_NO_ROOM && marks[0] == 7);
+    CHECK(zib_index_items(bytes, 12, 1, marks, 2, places, 2, &entries, &used) == 0 && entries == 1 && used == 12);
+    CHECK(marks[0] == 2 && places[0] == 0 && marks[1] == 7 && places[1] == 7);
+    CHECK(zib_get_indexed(bytes, used, marks, entries, places, entries, TEXT("aB"), &there, &start, &size) == 0);
+    CHECK(there == 1 && start == 11 && size == 1);
+    CHECK(zib_get_indexed(bytes, used, marks, entries, places, entries, TEXT("A"), &there, &start, &size) == ZIB_BAD_KEY && there == 1);
+    CHECK(zib_get_indexed(bytes, used, marks, entries, places, entries, TEXT("cd"), &there, &start, &size) == 0);
+    CHECK(there == 0 && start == 0 && size == 0);
+    CHECK(zib_set_indexed(bytes, sizeof bytes, marks, 2, places, 2, TEXT("AB"), TEXT("longer"), &entries, &used) == 0);
+    CHECK(entries == 1 && used == 29 && places[0] == 12 && IS(bytes, used, SPELT LONGER));
+    CHECK(zib_get_indexed(bytes, used, marks, entries, places, entries, TEXT("ab"), &there, &start, &size) == 0);
+    CHECK(there == 1 && start == 23 && IS(bytes + start, size, "longer"));
+    CHECK(zib_set_indexed(bytes, sizeof bytes, marks, 2, places, 2, TEXT("cd"), TEXT("d"), &entries, &used) == 0);
+    CHECK(entries == 2 && used == 41 && marks[1] == 2 && places[1] == 29 && IS(bytes, used, SPELT LONGER ADDED));
+    memcpy(kept, bytes, sizeof kept);
+    CHECK(zib_set_indexed(bytes, 40, marks, 2, places, 2, TEXT("cd"), TEXT("e"), &entries, &used) == ZIB_MALFORMED_AREA);
+    CHECK(zib_set_indexed(bytes, sizeof bytes, marks, 1, places, 2, TEXT("cd"), TEXT("e"), &entries, &used) == ZIB_MALFORMED_AREA);
+    CHECK(zib_set_indexed(bytes, sizeof bytes, marks, 2, places, 2, TEXT("tag"), TEXT("e"), &entries, &used) == ZIB_BAD_KEY);
+    CHECK(zib_set_indexed(bytes, sizeof bytes, marks, 2, places, 2, TEXT("cd"), TEXT("\xff"), &entries, &used) == ZIB_NOT_UTF8);
+    CHECK(zib_set_indexed(bytes, sizeof bytes, marks, 2, places, 2, TEXT("ef"), TEXT("e"), &entries, &used) == ZIB_NO_ROOM);
+    CHECK(zib_set_indexed(bytes, sizeof bytes, marks, 2, places, 2, TEXT("cd"), TEXT("too long"), &entries, &used) == ZIB_NO_ROOM);
+    CHECK(entries == 2 && used == 41 && places[0] == 12 && places[1] == 29 && memcmp(bytes, kept, sizeof kept) == 0);
+    CHECK(zib_write_indexed(bytes, used, wrong, 1, out, sizeof out, &count, &n) == ZIB_MALFORMED_AREA && count == 7 && n == 7);
+    CHECK(zib_write_indexed(bytes, used, places, entries, out, 28, &count, &n) == ZIB_NO_ROOM && count == 7 && n == 7);
+    CHECK(zib_write_indexed(bytes, used, places, entries, out, sizeof out, &count, &n) == 0 && count == 2 && IS(out, n, LONGER ADDED));
+    CHECK(zib_get(out, n, count, TEXT("AB"), &there, &start, &size) == 0 && there == 1 && IS(out + start, size, "longer"));
+    CHECK(zib_get(out, n, count, TEXT("CD"), &there, &start, &size) == 0 && there == 1 && IS(out + start, size, "d"));
+}
+
 static void files(void)
 {
     uint8_t out[1024], again[1024], left[2] = {10, 0}, right[1] = {0};
@@ -141,6 +182,7 @@ int main(void)
     utf8();
     values();
     items();
+    indexed();
     files();
     printf("faces: %d failed\n", failed);
     return failed != 0;

@@ -377,6 +377,181 @@ impl<'a> IntoIterator for &'a Items {
     }
 }
 
+/// The items of a tag behind an index, for many looks at one tag: neither [`Tag::get`] nor [`Tag::set`] walks over the items.
+///
+/// The index is made from the bytes by [`Tag::open`] and changed together with them by [`Tag::set`]. Nothing else can break it, since the fields
+/// are private and each call leaves them whole, a refused one too: so [`Tag::get`] gives what [`Items::get`] gives of the same items.
+///
+/// ```
+/// use zibrunnos::{Items, Refusal, Tag};
+///
+/// let mut items = Items::new();
+/// items.set(b"Title", b"Floor")?;
+/// let mut tag = Tag::open(items.as_bytes(), items.len())?;
+/// assert_eq!(tag.get(b"title")?, Some(&b"Floor"[..]));
+/// tag.set(b"title", b"Ceiling")?;
+/// tag.set(b"Artist", b"Nobody")?;
+/// assert_eq!(tag.get(b"Title")?, Some(&b"Ceiling"[..]));
+/// assert_eq!(tag.get(b"Album")?, None);
+/// assert_eq!(tag.get(b"A"), Err(Refusal::BadKey));
+/// items.set(b"title", b"Ceiling")?;
+/// items.set(b"Artist", b"Nobody")?;
+/// assert_eq!(tag.items()?, items);
+/// # Ok::<(), zibrunnos::Refusal>(())
+/// ```
+#[derive(Clone, Debug)]
+pub struct Tag {
+    /// The items; what an item was before it was set stands among them until they are gathered.
+    bytes: Vec<u8>,
+    /// The length of each item's key, or 0 for a key that nobody can ask for.
+    marks: Vec<u8>,
+    /// Where each item begins.
+    places: Vec<usize>,
+    /// How many bytes there may be before the items are gathered.
+    room: usize,
+}
+
+impl Tag {
+    /// The items of an area that has so many, as [`Items::as_bytes`] and [`Items::len`] give them.
+    ///
+    /// ```
+    /// use zibrunnos::{Refusal, Tag};
+    ///
+    /// let area = b"\x01\0\0\0\0\0\0\0AB\0c";
+    /// assert_eq!(Tag::open(area, 1)?.get(b"ab")?, Some(&b"c"[..]));
+    /// assert_eq!(Tag::open(area, 2).err(), Some(Refusal::MalformedArea));
+    /// assert!(Tag::open(b"", 0)?.is_empty());
+    /// # Ok::<(), zibrunnos::Refusal>(())
+    /// ```
+    pub fn open(area: &[u8], count: usize) -> Result<Tag> {
+        // An item has nine bytes or more, so a larger count is refused for itself, whatever the room.
+        let n = count.min(area.len() / 9);
+        let (mut marks, mut places, mut entries, mut used) = (vec![0; n], vec![0; n], 0, 0);
+        // SAFETY: each pointer is that of a slice with the length beside it; both outputs are new ones.
+        let reply = unsafe {
+            raw::zib_index_items(
+                area.as_ptr(),
+                area.len(),
+                count,
+                marks.as_mut_ptr(),
+                n,
+                places.as_mut_ptr(),
+                n,
+                &mut entries,
+                &mut used,
+            )
+        };
+        // Twice what the items take and a little more, so that few sets gather them; but no more than a file may have.
+        let room = (2 * area.len() + 4096).min(16_777_216);
+        done(reply, ())?;
+        Ok(Tag { bytes: area.to_vec(), marks, places, room })
+    }
+
+    pub fn len(&self) -> usize {
+        self.places.len()
+    }
+
+    pub fn is_empty(&self) -> bool {
+        self.places.is_empty()
+    }
+
+    /// The value of the first item with this key, in any letter case.
+    pub fn get(&self, key: &[u8]) -> Result<Option<&[u8]>> {
+        let (mut there, mut start, mut size) = (0, 0, 0);
+        // SAFETY: each pointer is that of a slice with the length beside it.
+        let reply = unsafe {
+            raw::zib_get_indexed(
+                self.bytes.as_ptr(),
+                self.bytes.len(),
+                self.marks.as_ptr(),
+                self.marks.len(),
+                self.places.as_ptr(),
+                self.places.len(),
+                key.as_ptr(),
+                key.len(),
+                &mut there,
+                &mut start,
+                &mut size,
+            )
+        };
+        done(reply, (there == 1).then(|| &self.bytes[start..start + size]))
+    }
+
+    /// Sets the first item with this key, which keeps its spelling and place, or appends one with the key in upper case.
+    /// [`Refusal::NoRoom`] means that the items and the new one together would be longer than a file may be.
+    ///
+    /// ```
+    /// use zibrunnos::{Refusal, Tag};
+    ///
+    /// let mut tag = Tag::open(b"", 0)?;
+    /// tag.set(b"Title", b"Floor")?;
+    /// assert_eq!(tag.items()?.iter().collect::<Vec<_>>(), [(&b"TITLE"[..], &b"Floor"[..])]);
+    /// assert_eq!(tag.set(b"Title", b"\xff"), Err(Refusal::NotUtf8));
+    /// assert_eq!(tag.get(b"Title")?, Some(&b"Floor"[..]));
+    /// # Ok::<(), zibrunnos::Refusal>(())
+    /// ```
+    pub fn set(&mut self, key: &[u8], value: &[u8]) -> Result<()> {
+        let more = 9 + key.len() + value.len();
+        if self.bytes.len() + more > self.room {
+            self.gather();
+        }
+        let (mut entries, mut used) = (self.places.len(), self.bytes.len());
+        // Room for the item and for one more entry.
+        self.bytes.resize(used + more, 0);
+        self.marks.push(0);
+        self.places.push(0);
+        // SAFETY: each pointer is that of a slice with the length beside it; those that are written are three vectors, borrowed alone.
+        let reply = unsafe {
+            raw::zib_set_indexed(
+                self.bytes.as_mut_ptr(),
+                self.bytes.len(),
+                self.marks.as_mut_ptr(),
+                self.marks.len(),
+                self.places.as_mut_ptr(),
+                self.places.len(),
+                key.as_ptr(),
+                key.len(),
+                value.as_ptr(),
+                value.len(),
+                &mut entries,
+                &mut used,
+            )
+        };
+        // The room that was not taken goes: all of it, where the call was refused.
+        self.bytes.truncate(used);
+        self.marks.truncate(entries);
+        self.places.truncate(entries);
+        done(reply, ())
+    }
+
+    /// The items as they stand now, in order.
+    pub fn items(&self) -> Result<Items> {
+        let mut count = 0;
+        // The items are parts of the bytes that do not overlap, so they have room in as many bytes.
+        // SAFETY: as in `get`; the output is a new one.
+        let bytes = filled(self.bytes.len(), |out, room, written| unsafe {
+            raw::zib_write_indexed(
+                self.bytes.as_ptr(),
+                self.bytes.len(),
+                self.places.as_ptr(),
+                self.places.len(),
+                out,
+                room,
+                &mut count,
+                written,
+            )
+        })?;
+        Ok(Items { bytes, count })
+    }
+
+    /// Lets the bytes be those of the items alone. Items that are longer than a file may be stay as they are, and what is set there is refused.
+    fn gather(&mut self) {
+        if let Ok(tag) = self.items().and_then(|items| Tag::open(&items.bytes, items.count)) {
+            *self = tag;
+        }
+    }
+}
+
 /// The items of a file's tag, or none where it has no tag. Keys and values that are not UTF-8 are converted as by `from_utf8_lossy`.
 pub fn read_tag(file: &[u8]) -> Result<Option<Items>> {
     let (mut there, mut count) = (0, 0);
@@ -758,6 +933,66 @@ mod tests {
         assert_eq!((read_u32_le(&file, footer + 8), read_u32_le(&file, file.len() - 3)), (Some(2000), None));
         assert_eq!(tag_start(&file, footer), Ok(Some(5)));
         assert_eq!(find_footer(b"audio"), Ok(None));
+    }
+
+    #[test]
+    fn a_tag_is_its_items() {
+        let mut items = Items::new();
+        items.set(b"AB", b"c").unwrap();
+        let mut tag = Tag::open(items.as_bytes(), items.len()).unwrap();
+        let (mut written, mut longest, mut most) = (0, 0, 0);
+        for i in 0..1000_usize {
+            let key = format!("Key {}{}", i * i % 41, "y".repeat(i % 7));
+            let other = key.to_uppercase();
+            let value = i.to_string().repeat(i % 5);
+            tag.set(key.as_bytes(), value.as_bytes()).unwrap();
+            items.set(key.as_bytes(), value.as_bytes()).unwrap();
+            written += 9 + key.len() + value.len();
+            longest = longest.max(tag.bytes.len());
+            most = most.max(items.as_bytes().len());
+            assert_eq!(tag.get(other.as_bytes()), Ok(Some(value.as_bytes())));
+            assert_eq!(tag.get(b"No key"), Ok(None));
+            assert_eq!(tag.set(b"A", b"x"), Err(Refusal::BadKey));
+            assert_eq!(tag.set(key.as_bytes(), b"\xff"), Err(Refusal::NotUtf8));
+            assert_eq!((tag.len(), tag.items()), (items.len(), Ok(items.clone())));
+        }
+        // More was written than is kept.
+        assert!(longest < written && longest <= 2 * most + 4096);
+        for (key, value) in &items {
+            assert_eq!(tag.get(key), Ok(Some(value)));
+        }
+    }
+
+    #[test]
+    fn a_tag_keeps_what_nobody_can_ask_for() {
+        let area = b"\x01\0\0\0\0\0\0\0TAG\0c\x01\0\0\0\0\0\0\0TAB\0d";
+        let mut tag = Tag::open(area, 2).unwrap();
+        assert_eq!(tag.get(b"TAG"), Err(Refusal::BadKey));
+        assert_eq!(tag.get(b"tab"), Ok(Some(&b"d"[..])));
+        tag.set(b"tab", b"e").unwrap();
+        assert_eq!(tag.items().unwrap().as_bytes(), b"\x01\0\0\0\0\0\0\0TAG\0c\x01\0\0\0\0\0\0\0TAB\0e");
+        assert_eq!(Tag::open(area, 1).err(), Some(Refusal::MalformedArea));
+        assert_eq!(Tag::open(area, usize::MAX).err(), Some(Refusal::MalformedArea));
+    }
+
+    #[test]
+    fn a_tag_is_as_long_as_a_file_at_most() {
+        let mut tag = Tag::open(b"", 0).unwrap();
+        let value = vec![b'x'; 8_388_608 - 11];
+        tag.set(b"AB", &value).unwrap();
+        tag.set(b"AB", &value).unwrap();
+        tag.set(b"AB", &value).unwrap();
+        tag.set(b"CD", &value).unwrap();
+        assert_eq!((tag.len(), tag.items().unwrap().as_bytes().len()), (2, 16_777_216));
+        assert_eq!(tag.set(b"CD", b""), Err(Refusal::NoRoom));
+        assert_eq!(tag.set(b"A", b""), Err(Refusal::BadKey));
+        assert_eq!(tag.get(b"cd"), Ok(Some(&value[..])));
+        let mut area = tag.items().unwrap().as_bytes().to_vec();
+        area.extend(b"\0\0\0\0\0\0\0\0EF\0");
+        let mut tag = Tag::open(&area, 3).unwrap();
+        assert_eq!(tag.get(b"ef"), Ok(Some(&b""[..])));
+        assert_eq!(tag.set(b"ef", b""), Err(Refusal::NoRoom));
+        assert_eq!(tag.items(), Err(Refusal::NoRoom));
     }
 
     #[test]

@@ -74,22 +74,11 @@ pub extern "C" fn zib_item_at(
     }
 }
 
-// The value of the first item with this key, as a part of the area: `there` is 1, with the value's start and size, or all three are 0
-// where no item has the key. Refusals 12 and 3.
-#[no_mangle]
-pub extern "C" fn zib_get(
-    area: &[u8],
-    count: usize,
-    key: &[u8],
-    there: &mut u32,
-    start: &mut usize,
-    size: &mut usize,
-) -> u32
-    ensures { λ r. ⌜ (let found = findOf (now (area .entry)) count (now (key .entry)) in
-        let face = foundFace found (now (there .entry)) (now (start .entry)) (now (size .entry)) in
+// The reply to get, and what it found into the lent numbers.
+pub fn found(f: Found, there: &mut u32, start: &mut usize, size: &mut usize) -> u32
+    ensures { λ r. ⌜ (let face = foundFace f (now (there .entry)) (now (start .entry)) (now (size .entry)) in
         (r ≡ face .reply) × (now (there .exit) ≡ face .there) × (now (start .exit) ≡ face .start) × (now (size .exit) ≡ face .size)) ⌝ }
 {
-    let f = items::find(area, count, key);
     match f {
         Found::Value {
             start: at,
@@ -108,6 +97,24 @@ pub extern "C" fn zib_get(
         }
         Found::Refused(r) => replies::number(r),
     }
+}
+
+// The value of the first item with this key, as a part of the area: `there` is 1, with the value's start and size, or all three are 0
+// where no item has the key. Refusals 12 and 3.
+#[no_mangle]
+pub extern "C" fn zib_get(
+    area: &[u8],
+    count: usize,
+    key: &[u8],
+    there: &mut u32,
+    start: &mut usize,
+    size: &mut usize,
+) -> u32
+    ensures { λ r. ⌜ (let face = foundFace (findOf (now (area .entry)) count (now (key .entry))) (now (there .entry)) (now (start .entry)) (now (size .entry)) in
+        (r ≡ face .reply) × (now (there .exit) ≡ face .there) × (now (start .exit) ≡ face .start) × (now (size .exit) ≡ face .size)) ⌝ }
+{
+    let f = items::find(area, count, key);
+    found(f, there, start, size)
 }
 
 // The left number of the first undo item: `there` is 1 and `steps` the number, or both are 0 where there is none. Refusal 12.

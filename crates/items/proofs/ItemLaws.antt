@@ -216,7 +216,7 @@ sane-set key value (t ∷ ts) n (s, r) = go (sameKey key (t .key)) refl (sane-se
     go false e ih = rw e (s, ih)
 
 -- a key that was read has no zero byte
-key-sane : (s : List ℕ) → placeOf 0 (take (placeOf 0 s) s) ≡ length (take (placeOf 0 s) s)
+pub key-sane : (s : List ℕ) → placeOf 0 (take (placeOf 0 s) s) ≡ length (take (placeOf 0 s) s)
 unfolding placeOf
 key-sane [] = refl
 key-sane (x ∷ s) = go (eqb x 0) refl (key-sane s)

@@ -12,7 +12,7 @@ use Rattle.lists.specs.Bytes.{Small}
 use Rattle.lists.specs.Choice.{found, isSome}
 use Rattle.lists.specs.Write.{part}
 use Rattle.lists.proofs.Places.{small-drop}
-use Rattle.items.specs.Items.{Item, itemBytes, sizeOf, Head, parse, itemsIn}
+use Rattle.items.specs.Items.{Item, itemBytes, sizeOf, Head, plainHead, parse, itemsIn}
 use Rattle.items.specs.Answers.{stepOf}
 use Rattle.items.specs.declared.Stepped.{Stepped}
 use Rattle.items.specs.declared.Stepped.the-variants.{Item as ItemAt}
@@ -56,6 +56,15 @@ value-part {f} {s} {at} {g} {a} {b} {c} {d} t =
     ∙ ap (λ (l : List ℕ). take (length v) l) (sym (drop-drop (9 + length (t .head .item .key)) at s))
     ∙ sym (t .whole .value-is)
 
+-- the whole item
+pub item-part : {s : List ℕ} {at g a b c d : ℕ} (t : Taken plainHead s at g a b c d) → Small s → part at d s ≡ itemBytes (t .head .item)
+item-part {s} {at} {g} {a} {b} {c} {d} t sm =
+    let h = t .head in
+    let m : d - at ≡ sizeOf (h .item) = omega (arith, t .value-end) in
+    ap (λ (i : ℕ). take i (drop at s)) m
+    ∙ ap (λ (l : List ℕ). take (sizeOf (h .item)) l) (head-bytes (drop at s) h (small-drop s at sm) (t .is))
+    ∙ take-at (itemBytes (h .item)) (h .rest) (sizeOf (h .item)) (length-item (h .item))
+
 module _ {s : List ℕ} {at left : ℕ} (l : Left s at left) (more : 0 < left) where
   -- an item was found
   pub turn : {g a b c d : ℕ} → ItemAt g a b c d ≡ stepOf s at → Turn s at left a b c d
@@ -63,7 +72,6 @@ module _ {s : List ℕ} {at left : ℕ} (l : Left s at left) (more : 0 < left) w
       let t = taken zero-flags s at g a b c d e in
       let h = t .head in
       let f = fewer left t more in
-      let m : d - at ≡ sizeOf (h .item) = omega (arith, t .value-end) in
       record {
         item = h .item;
         list = ap (λ o. found o [] (λ ts. ts)) f ∙ opened (h .item) (parse (left - 1) (drop d s)) (sym (ap isSome f) ∙ l .some);
@@ -74,10 +82,7 @@ module _ {s : List ℕ} {at left : ℕ} (l : Left s at left) (more : 0 < left) w
         end = t .value-end;
         key = key-part t;
         value = value-part t;
-        bytes = λ sm.
-            ap (λ (i : ℕ). take i (drop at s)) m
-            ∙ ap (λ (l : List ℕ). take (sizeOf (h .item)) l) (head-bytes (drop at s) h (small-drop s at sm) (t .is))
-            ∙ take-at (itemBytes (h .item)) (h .rest) (sizeOf (h .item)) (length-item (h .item));
+        bytes = item-part t;
       }
 
   -- the step finds one

@@ -2,7 +2,7 @@
 ghost use mathlib.Core.Path.{_≡_};
 ghost use Prim.Native.Nat.{_≤_, _<_, _+_};
 ghost use lib.Dec.{eqb};
-ghost use lib.ListN.{length};
+ghost use lib.ListN.{length, take, drop};
 ghost use Rattle.lists.specs.Bytes.{all};
 ghost use Rattle.lists.specs.Write.{splice};
 ghost use Rattle.keys.specs.Keys.{upper, upperAll, sameKey, printable, whichKey, whichIs, isFrom, isMp3gainKey, isUndone, isReplayGain, isReserved, isKey};
@@ -127,6 +127,83 @@ pub fn same_key(a: &[u8], b: &[u8]) -> bool
         if !same_letter(a[i], b[i]) {
             return false;
         }
+    }
+    true
+}
+
+// Whether eight letters of the two from `at` are equal but for case. All are looked at, so that the compiler compares them at once.
+fn same_8(a: &[u8], b: &[u8], at: usize) -> bool
+    requires { ⌜ (at + 8 ≤ length (now a)) × (at + 8 ≤ length (now b)) ⌝ }
+    ensures { λ r. ⌜ r ≡ sameKey (take 8 (drop at (now (a .entry)))) (take 8 (drop at (now (b .entry)))) ⌝ }
+{
+    let mut differ = false;
+    let mut k = 0;
+    while k < 8 {
+        differ = differ | (upper_case(a[at + k]) != upper_case(b[at + k]));
+        k += 1;
+    }
+    !differ
+}
+
+// The same, eight letters at a time, for two that are expected to be equal. The last eight are compared first, and then the blocks from the
+// start, of which the last may reach into those eight.
+fn same_by_eights(a: &[u8], b: &[u8]) -> bool
+    ensures { λ r. ⌜ r ≡ sameKey (now (a .entry)) (now (b .entry)) ⌝ }
+{
+    if a.len() != b.len() {
+        return false;
+    }
+    if a.len() < 8 {
+        return same_key(a, b);
+    }
+    let last = a.len() - 8;
+    if !same_8(a, b, last) {
+        return false;
+    }
+    let mut i = 0;
+    while i < last {
+        if !same_8(a, b, i) {
+            return false;
+        }
+        i += 8;
+    }
+    true
+}
+
+// `same_8` for sixteen letters.
+fn same_16(a: &[u8], b: &[u8], at: usize) -> bool
+    requires { ⌜ (at + 16 ≤ length (now a)) × (at + 16 ≤ length (now b)) ⌝ }
+    ensures { λ r. ⌜ r ≡ sameKey (take 16 (drop at (now (a .entry)))) (take 16 (drop at (now (b .entry)))) ⌝ }
+{
+    let mut differ = false;
+    let mut k = 0;
+    while k < 16 {
+        differ = differ | (upper_case(a[at + k]) != upper_case(b[at + k]));
+        k += 1;
+    }
+    !differ
+}
+
+// `same_by_eights`, sixteen letters at a time where there are as many.
+pub fn same_by_sixteens(a: &[u8], b: &[u8]) -> bool
+    ensures { λ r. ⌜ r ≡ sameKey (now (a .entry)) (now (b .entry)) ⌝ }
+{
+    if a.len() != b.len() {
+        return false;
+    }
+    if a.len() < 16 {
+        return same_by_eights(a, b);
+    }
+    let last = a.len() - 16;
+    if !same_16(a, b, last) {
+        return false;
+    }
+    let mut i = 0;
+    while i < last {
+        if !same_16(a, b, i) {
+            return false;
+        }
+        i += 16;
     }
     true
 }

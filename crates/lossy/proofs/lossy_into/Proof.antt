@@ -1,4 +1,4 @@
--- `utf8::lossy_into` meets its contract: it writes only where there is room, by the laws on sizes, or by asking.
+-- `lossy::lossy_into` meets its contract: it writes only where there is room, by the laws on sizes, or by asking.
 use borrow.Author.Needs.{needs}
 use Prim.Native.Nat.{_≤_, _<_}
 use mathlib.Core.Path.{refl, sym, _∙_}
