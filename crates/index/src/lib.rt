@@ -225,7 +225,8 @@ fn put_changed(bytes: &mut [u8], used: usize, place: usize, stop: usize, value: 
 }
 
 // Sets the value of the first item with this key, by an index of the first `used` bytes: the item, which keeps its spelling, is written anew
-// behind them, and its entry names the new one. Where no item has the key there is one more entry.
+// behind them, and its entry names the new one. Where no item has the key there is one more entry. The search comes before the tests of the
+// value: the compiler takes what stands behind many tests for seldom reached, and does not compile it into the call.
 pub fn set_indexed(
     bytes: &mut [u8],
     used: usize,
@@ -251,6 +252,7 @@ pub fn set_indexed(
     if !keys::is_key(key) {
         return Edited::Refused(Refusal::BadKey);
     }
+    let w = seek(&bytes[0..used], &marks[0..count], &places[0..count], key);
     if !utf8::is_utf8(value) {
         return Edited::Refused(Refusal::NotUtf8);
     }
@@ -267,7 +269,6 @@ pub fn set_indexed(
     if end > replies::FILE_LIMIT {
         return Edited::Refused(Refusal::NoRoom);
     }
-    let w = seek(&bytes[0..used], &marks[0..count], &places[0..count], key);
     match w {
         Sought::Entry { number, place } => {
             put_changed(bytes, used, place, place + 8 + key.len(), value);

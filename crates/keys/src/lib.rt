@@ -289,7 +289,7 @@ fn is_printable(b: u8) -> bool
 }
 
 // Whether every byte is. Four bytes are read for one test of the end.
-fn all_printable(s: &[u8]) -> bool
+fn printable_by_fours(s: &[u8]) -> bool
     ensures { λ r. ⌜ r ≡ all printable (now (s .entry)) ⌝ }
 {
     let mut i = 0;
@@ -308,6 +308,42 @@ fn all_printable(s: &[u8]) -> bool
             return false;
         }
         i += 1;
+    }
+    true
+}
+
+// Whether sixteen bytes from `at` are. All are looked at, so that the compiler tests them at once.
+fn printable_16(s: &[u8], at: usize) -> bool
+    requires { ⌜ at + 16 ≤ length (now s) ⌝ }
+    ensures { λ r. ⌜ r ≡ all printable (take 16 (drop at (now (s .entry)))) ⌝ }
+{
+    let mut other = false;
+    let mut n = 0;
+    while n < 16 {
+        other = other | !is_printable(s[at + n]);
+        n += 1;
+    }
+    !other
+}
+
+// Whether every byte is, sixteen at a time where there are as many: the last sixteen, and then the blocks from the start, of which the last
+// may reach into those sixteen.
+fn all_printable(s: &[u8]) -> bool
+    ensures { λ r. ⌜ r ≡ all printable (now (s .entry)) ⌝ }
+{
+    if s.len() < 16 {
+        return printable_by_fours(s);
+    }
+    let last = s.len() - 16;
+    if !printable_16(s, last) {
+        return false;
+    }
+    let mut at = 0;
+    while at < last {
+        if !printable_16(s, at) {
+            return false;
+        }
+        at += 16;
     }
     true
 }

@@ -3,3 +3,4 @@ pub mod Places
 pub mod Wrote
 pub mod Numbers
 pub mod Halves
+pub mod All

@@ -1,9 +1,10 @@
 // UTF-8 by the Unicode standard: what stands at a place of a text, where its characters end, and whether it is well formed.
 ghost use mathlib.Core.Path.{_≡_};
-ghost use mathlib.Core.Bool.{true};
+ghost use mathlib.Core.Bool.{true, _&&_};
 ghost use Prim.Native.Nat.{_≤_, _+_};
-ghost use lib.ListN.{length, drop};
-ghost use Rattle.utf8.specs.Utf8.{class, numberOf, Classes, begins, follow, stepOf, valid};
+ghost use lib.Dec.{ltb};
+ghost use lib.ListN.{length, take, drop};
+ghost use Rattle.utf8.specs.Utf8.{class, numberOf, Classes, begins, follow, stepOf, valid, plain};
 ghost use Rattle.utf8.specs.Runs.{Stretch, Ran};
 
 pub mod table;
@@ -249,10 +250,76 @@ pub fn is_utf8_by(table: &[u8; 256], s: &[u8]) -> bool
     r.bad == 0
 }
 
-// Is the text well-formed UTF-8?
+// Whether sixteen bytes from `at` are ASCII. All are looked at, so that the compiler tests them at once.
+fn plain_16(s: &[u8], at: usize) -> bool
+    requires { ⌜ at + 16 ≤ length (now s) ⌝ }
+    ensures { λ r. ⌜ r ≡ plain (take 16 (drop at (now (s .entry)))) ⌝ }
+{
+    let mut other = false;
+    let mut n = 0;
+    while n < 16 {
+        other = other | !(s[at + n] < 0x80);
+        n += 1;
+    }
+    !other
+}
+
+// Whether every byte is, one after another.
+fn plain_each(s: &[u8]) -> bool
+    ensures { λ r. ⌜ r ≡ plain (now (s .entry)) ⌝ }
+{
+    let mut k = 0;
+    while k < s.len() {
+        if !(s[k] < 0x80) {
+            return false;
+        }
+        k += 1;
+    }
+    true
+}
+
+// The same, sixteen at a time where there are as many: the last sixteen, and then the blocks from the start, of which the last may reach
+// into those sixteen.
+fn is_plain(s: &[u8]) -> bool
+    ensures { λ r. ⌜ r ≡ plain (now (s .entry)) ⌝ }
+{
+    if s.len() < 16 {
+        return plain_each(s);
+    }
+    let last = s.len() - 16;
+    if !plain_16(s, last) {
+        return false;
+    }
+    let mut at = 0;
+    while at < last {
+        if !plain_16(s, at) {
+            return false;
+        }
+        at += 16;
+    }
+    true
+}
+
+// From how many bytes on ASCII is passed in longer blocks, behind the table.
+const LONG: usize = 512;
+
+// Whether a text is ASCII that needs no table.
+fn is_short_plain(s: &[u8]) -> bool
+    ensures { λ r. ⌜ r ≡ (ltb (length (now (s .entry))) 512 && plain (now (s .entry))) ⌝ }
+{
+    if s.len() >= LONG {
+        return false;
+    }
+    is_plain(s)
+}
+
+// Is the text well-formed UTF-8? Most texts that are set are short and ASCII: the table is not set up for them.
 pub fn is_utf8(s: &[u8]) -> bool
     ensures { λ r. ⌜ r ≡ valid (now (s .entry)) ⌝ }
 {
+    if is_short_plain(s) {
+        return true;
+    }
     let table = table::CLASS;
     is_utf8_by(&table, s)
 }

@@ -43,9 +43,13 @@ returns-4 c =
     (l .before .before .if1 .left) (l .before .if2 .left) (l .if3 .left)
     (sym (c .before .is-key .ensures) ∙ not-true (c .before .is-key .result) (c .if4 .taken))
 
+-- the tests before the search
+abbrev named : tie.After-seek → tie.Else4
+named c = c .before .before .before .before .before .before .before
+
 returns-5 : tie.Need-returns-5
 returns-5 c =
-    let k = c .before .before in
+    let k = named (c .before .before) in
     let l = k .before .before in
     let g = l .before .before .before .before .before .before .before .before .args in
     text-4 (g .key .now) (g .value .now) (g .bytes .now) (g .used) (g .marks .now) (g .places .now) (g .count)
@@ -54,12 +58,12 @@ returns-5 c =
 
 -- where it began
 abbrev start : tie.Else5 → tie.Start
-start c = c .before .before .before .before .before .before .before .before .before .before .before .before
+start c = named (c .before .before) .before .before .before .before .before .before .before .before .before .before
 
 -- none of them is given
 opened : (c : tie.Else5) → let g = start c .args in Open (g .key .now) (g .value .now) (g .bytes .now) (g .used) (g .marks .now) (g .places .now) (g .count)
 opened c =
-    let k = c .before .before in
+    let k = named (c .before .before) in
     let l = k .before .before in
     record {
       in-use = l .before .before .if1 .left;
@@ -73,7 +77,7 @@ opened c =
 short : (c : tie.Else5) → length (start c .args .key .now) ≤ 255
 short c = key-length (start c .args .key .now) (opened c .good) .1
 
--- ---- refusal 5 before the search
+-- ---- refusal 5 before what was found is looked at
 
 returns-6 : tie.Need-returns-6
 returns-6 c = file-5 (opened (c .before)) (omega (arith, c .if6 .taken))
@@ -87,91 +91,86 @@ returns-8 c = bytes-5 (opened (c .before .before .before)) (c .if8 .taken)
 returns-9 : tie.Need-returns-9
 returns-9 c = file-5 (opened (c .before .before .before .before)) (c .if9 .taken)
 
--- ---- the search
+-- ---- what the search answered
 
--- the tests before it
-abbrev tested : tie.After-seek → tie.Else9
-tested c = c .before .before .before .before .before .before .before
+-- refusals 12, 3 and 4 before all others
+abbrev passed : tie.Else9 → tie.Else5
+passed c = c .before .before .before .before
 
--- refusals 12, 3 and 4 before it
-abbrev passed : tie.After-seek → tie.Else5
-passed c = tested c .before .before .before .before
-
--- what it answers
-sought : (c : tie.After-seek) → Seeks (opened (passed c)) (c .seek .result)
-sought c = let g = start (passed c) .args in rw (sub-zero (g .used), sub-zero (g .count)) at (c .seek .ensures)
+sought : (c : tie.Else9) → Seeks (opened (passed c)) (passed c .before .before .seek .result)
+sought c = let g = start (passed c) .args in rw (sub-zero (g .used), sub-zero (g .count)) at (passed c .before .before .seek .ensures)
 
 -- ---- an entry was found
 
--- the search that found it
-abbrev seek-1 : tie.After-known-told → tie.After-seek
-seek-1 c = c .before .before .before
+-- the tests before it is looked at
+abbrev tested : tie.After-known-told → tie.Else9
+tested c = c .before .before .before
 
 -- what it found
-entry : (c : tie.After-known-told) → let v = c .before .w .given .0 in Seeks (opened (passed (seek-1 c))) (Entry (v .0) (v .1 .0))
-entry c = sym (c .before .w .given .1) ∙ sought (seek-1 c)
+entry : (c : tie.After-known-told) → let v = c .before .w .given .0 in Seeks (opened (passed (tested c))) (Entry (v .0) (v .1 .0))
+entry c = sym (c .before .w .given .1) ∙ sought (tested c)
 
 -- where it is
-here : (c : tie.After-known-told) → let g = start (passed (seek-1 c)) .args in let v = c .before .w .given .0 in
+here : (c : tie.After-known-told) → let g = start (passed (tested c)) .args in let v = c .before .w .given .0 in
     (v .0 < g .count) × (v .1 .0 + 9 + length (g .key .now) ≤ g .used)
-here c = there (opened (passed (seek-1 c))) _ _ (entry c)
+here c = there (opened (passed (tested c))) _ _ (entry c)
 
 put-changed-requires : tie.Need-put-changed-requires
 put-changed-requires c κs =
     let h = here (c .before) in
-    let f = tested (seek-1 (c .before)) in
+    let f = tested (c .before) in
     (omega arith, omega (arith, h), f .before .before .before .if6 .left, omega (arith, h, f .before .if8 .left))
 
 slice-write-marks : tie.Need-slice-write-marks
 slice-write-marks c =
     let t = c .before .before .before .before in
-    omega (arith, here t, opened (passed (seek-1 t)) .marks)
+    omega (arith, here t, opened (passed (tested t)) .marks)
 
 mul-places : tie.Need-mul-places
 mul-places c =
     let t = c .before .before .before .before in
-    let p = passed (seek-1 t) in
+    let p = passed (tested t) in
     omega (arith, here t, opened p .places, start p .good)
 
 slice-write-places : tie.Need-slice-write-places
 slice-write-places c =
     let t = c .before .before .before .before in
-    omega (arith, here t, opened (passed (seek-1 t)) .places)
+    omega (arith, here t, opened (passed (tested t)) .places)
 
 returns-12 : tie.Need-returns-12
 returns-12 c =
     let t = c .before .before .before .before in
-    let f = tested (seek-1 t) in
+    let f = tested t in
     let (a, b, m, p) =
-    changes (opened (passed (seek-1 t))) _ _ (entry t) (f .before .if8 .left) (f .if9 .left) (c .before .before .put-changed .ensures .1) in
+    changes (opened (passed (tested t))) _ _ (entry t) (f .before .if8 .left) (f .if9 .left) (c .before .before .put-changed .ensures .1) in
     (a, b, m, p)
 
 -- ---- no entry was found
 
--- the search that found none
-abbrev seek-2 : tie.After-enum-told → tie.After-seek
-seek-2 c = c .before .before
+-- the tests before that is looked at
+abbrev tested-2 : tie.After-enum-told → tie.Else9
+tested-2 c = c .before .before
 
 -- what it answered
-nowhere : (c : tie.After-enum-told) → Seeks (opened (passed (seek-2 c))) Nowhere
-nowhere c = sym (c .enum-told .given .1) ∙ sought (seek-2 c)
+nowhere : (c : tie.After-enum-told) → Seeks (opened (passed (tested-2 c))) Nowhere
+nowhere c = sym (c .enum-told .given .1) ∙ sought (tested-2 c)
 
 returns-10 : tie.Need-returns-10
 returns-10 c =
     let t = c .before in
-    marks-5 (opened (passed (seek-2 t))) (nowhere t) (c .if10 .taken)
+    marks-5 (opened (passed (tested-2 t))) (nowhere t) (c .if10 .taken)
 
 returns-11 : tie.Need-returns-11
 returns-11 c =
     let t = c .before .before in
-    places-5 (opened (passed (seek-2 t))) (nowhere t) (c .if11 .taken)
+    places-5 (opened (passed (tested-2 t))) (nowhere t) (c .if11 .taken)
 
 returns-13 : tie.Need-returns-13
 returns-13 c =
     let i = c .before .before .before .before in
     let t = i .before .before in
-    let f = tested (seek-2 t) in
-    let o = opened (passed (seek-2 t)) in
+    let f = tested-2 t in
+    let o = opened (passed (tested-2 t)) in
     let (a, b, m, p) =
     adds o (nowhere t) (f .before .if8 .left) (f .if9 .left) (omega (arith, i .before .if10 .left, o .marks)) (omega (arith, i .if11 .left, o .places))
     (c .before .before .put-item .ensures .1) in
@@ -186,30 +185,45 @@ set-indexed-spec =
     returns-3
     (λ c κs. search needs)
     returns-4
+    (λ c. search needs)
+    (λ c. search needs)
+    (λ c. search needs)
+    (λ c. search needs)
+    (λ c. search needs)
+    (λ c. search needs)
+    (λ c. search needs)
+    (λ c. search needs)
+    (λ c. search needs)
+    (λ c κs. key-length _ (good (c .before .before .before .before .before .before)) .1)
     (λ c κs. search needs)
+    (λ c. search needs)
+    (λ c. search needs)
+    (λ c. search needs)
     returns-5
+    (λ c. search needs)
+    (λ c. search needs)
+    (λ c. search needs)
     returns-6
+    (λ c. search needs)
+    (λ c. search needs)
+    (λ c. search needs)
     returns-7
     (λ c. search needs)
     (λ c. search needs)
     (λ c. search needs)
+    (λ c. search needs)
+    (λ c. search needs)
+    (λ c. search needs)
     returns-8
+    (λ c. search needs)
+    (λ c. search needs)
+    (λ c. search needs)
     returns-9
     (λ c. search needs)
-    (λ c. search needs)
-    (λ c. search needs)
-    (λ c. search needs)
-    (λ c. search needs)
-    (λ c. search needs)
-    (λ c. search needs)
-    (λ c. search needs)
-    (λ c. search needs)
-    (λ c κs. short (c .before .before .before .before .before .before .before .before .before .before))
-    (λ c. search needs)
-    (λ c. omega (arith, here (c .before), start (passed (seek-1 (c .before))) .fits .used))
-    (λ c. omega (arith, here (c .before), start (passed (seek-1 (c .before))) .fits .used))
+    (λ c. omega (arith, here (c .before), start (passed (tested (c .before))) .fits .used))
+    (λ c. omega (arith, here (c .before), start (passed (tested (c .before))) .fits .used))
     put-changed-requires
-    (λ c. omega (arith, short (passed (seek-1 (c .before .before .before .before)))))
+    (λ c. omega (arith, short (passed (tested (c .before .before .before .before)))))
     slice-write-marks
     mul-places
     slice-write-places
@@ -223,7 +237,7 @@ set-indexed-spec =
     (λ c. search needs)
     returns-11
     (λ c κs. search needs)
-    (λ c. omega (arith, short (passed (seek-2 (c .before .before .before .before .before .before)))))
+    (λ c. omega (arith, short (passed (tested-2 (c .before .before .before .before .before .before)))))
     (λ c. search needs)
     (λ c. search needs)
     (λ c. search needs)
