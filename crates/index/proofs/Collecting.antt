@@ -85,7 +85,7 @@ module _ (s ps : List ℕ) where
   pub rest-none : (i : ℕ) → length ps ≤ i → itemsBy s (drop i ps) ≡ []
   rest-none i h = ap (λ o. found o [] (λ ts. ts)) (at-end i h)
 
-  -- ---- room: what is left fits into `left` bytes where all of it fits
+  -- ---- room: what is left is there and fits into `left` bytes where all of it is there and fits
 
   -- what fits into the least of two bounds fits into both
   least : (n a b : ℕ) → a ≤ b → (leb n a && leb n b) ≡ leb n a
@@ -102,14 +102,16 @@ module _ (s ps : List ℕ) where
       go true e = refl
       go false e = let l = leb-false n a e in sym (lt-leb n b (omega arith))
 
-  -- all of it fits where what is left fits into `left` bytes
+  -- the items that were found, if any, fit into `left` bytes
+  abbrev within : Option (List Item) → ℕ → Bool
+  within o left = isSome o && leb (length (areaBytes (found o [] (λ ts. ts)))) left
+
   pub record Room (room i left : ℕ) : Type 0 where
-    pub rest : Rest i
-    pub same : fits room (itemsBy s ps) ≡ leb (length (areaBytes (itemsBy s (drop i ps)))) left
+    pub same : (isSome (itemsAt s ps) && fits room (itemsBy s ps)) ≡ within (itemsAt s (drop i ps)) left
 
   -- `left` is the least of the two bounds
-  pub room-first : (room left : ℕ) → isSome (itemsAt s ps) ≡ true → left ≡ cond (leb room fileLimit) room fileLimit → Room room 0 left
-  room-first room left e f = record { rest = rest-first e; same = go (leb room fileLimit) refl ∙ ap (leb n) (sym f) }
+  pub room-first : (room left : ℕ) → left ≡ cond (leb room fileLimit) room fileLimit → Room room 0 left
+  room-first room left f = record { same = ap (λ (t : Bool). isSome (itemsAt s ps) && t) (go (leb room fileLimit) refl ∙ ap (leb n) (sym f)) }
     where
       n : ℕ
       n = length (areaBytes (itemsBy s ps))
@@ -118,34 +120,48 @@ module _ (s ps : List ℕ) where
       go true h = least n room fileLimit (leb-true room fileLimit h)
       go false h = let l = leb-false room fileLimit h in least-turned n room fileLimit (omega arith)
 
-  module _ {room i left : ℕ} (x : Room room i left) (h : i < length ps) {g a b c d : ℕ} (t : Taken plainHead s (getD ps i 0) g a b c d) where
-    -- the item does not fit
-    pub room-over : left < d - getD ps i 0 → fits room (itemsBy s ps) ≡ false
-    room-over l = x .same ∙ lt-leb (length (areaBytes (itemsBy s (drop i ps)))) left (omega (arith, rest-length (x .rest) h t))
+  module _ {room i left : ℕ} (x : Room room i left) (h : i < length ps) where
+    -- no item stands at the place
+    pub room-none : plainHead (drop (getD ps i 0) s) ≡ none → (isSome (itemsAt s ps) && fits room (itemsBy s ps)) ≡ false
+    room-none e = x .same ∙ ap (λ o. within o left) (at-none i h e)
 
-    -- it does
-    pub room-next : d - getD ps i 0 ≤ left → Room room (i + 1) (left - (d - getD ps i 0))
-    room-next l =
-        record {
-          rest = rest-next (x .rest) h t;
-          same = x .same ∙ go (leb (length (areaBytes (itemsBy s (drop i ps)))) left) refl;
-        }
-      where
-        n : ℕ
-        n = length (areaBytes (itemsBy s (drop (i + 1) ps)))
+    module _ {g a b c d : ℕ} (t : Taken plainHead s (getD ps i 0) g a b c d) where
+      -- what is left from here, by whether the item fits
+      turn : (fit : Bool) → leb (d - getD ps i 0) left ≡ fit
+          → within (itemsAt s (drop i ps)) left ≡ (fit && within (itemsAt s (drop (i + 1) ps)) (left - (d - getD ps i 0)))
+      turn fit e = ap (λ o. within o left) (at-some i h (t .head) (t .is)) ∙ go fit (itemsAt s (drop (i + 1) ps)) e
+        where
+          n : ℕ
+          n = d - getD ps i 0
 
-        go : (y : Bool) → leb (length (areaBytes (itemsBy s (drop i ps)))) left ≡ y → y ≡ leb n (left - (d - getD ps i 0))
-        go true e =
-            let f = leb-true (length (areaBytes (itemsBy s (drop i ps)))) left e in
-            sym (le-leb n (left - (d - getD ps i 0)) (omega (arith, rest-length (x .rest) h t)))
-        go false e =
-            let f = leb-false (length (areaBytes (itemsBy s (drop i ps)))) left e in
-            sym (lt-leb n (left - (d - getD ps i 0)) (omega (arith, rest-length (x .rest) h t)))
+          go : (fit : Bool) (o : Option (List Item)) → leb n left ≡ fit → within (Option·map (λ ts. t .head .item ∷ ts) o) left ≡ (fit && within o (left - n))
+          go true none e = refl
+          go false none e = refl
+          go true (some ts) e =
+              let l = leb-true n left e in
+              inner (leb (length (areaBytes ts)) (left - n)) refl
+            where
+              inner : (y : Bool) → leb (length (areaBytes ts)) (left - n) ≡ y → leb (length (areaBytes (t .head .item ∷ ts))) left ≡ leb (length (areaBytes ts)) (left - n)
+              inner true f =
+                  let k = leb-true (length (areaBytes ts)) (left - n) f in
+                  le-leb _ left (omega (arith, length-area (t .head .item) ts, t .value-end, leb-true n left e)) ∙ sym f
+              inner false f =
+                  let k = leb-false (length (areaBytes ts)) (left - n) f in
+                  lt-leb _ left (omega (arith, length-area (t .head .item) ts, t .value-end, leb-true n left e)) ∙ sym f
+          go false (some ts) e = let l = leb-false n left e in lt-leb _ left (omega (arith, length-area (t .head .item) ts, t .value-end))
+
+      -- the item does not fit
+      pub room-over : left < d - getD ps i 0 → (isSome (itemsAt s ps) && fits room (itemsBy s ps)) ≡ false
+      room-over l = x .same ∙ turn false (lt-leb (d - getD ps i 0) left l)
+
+      -- it does
+      pub room-next : d - getD ps i 0 ≤ left → Room room (i + 1) (left - (d - getD ps i 0))
+      room-next l = record { same = x .same ∙ turn true (le-leb (d - getD ps i 0) left l) }
 
   -- nothing is left
-  pub room-end : {room i left : ℕ} (x : Room room i left) → length ps ≤ i → fits room (itemsBy s ps) ≡ true
+  pub room-end : {room i left : ℕ} (x : Room room i left) → length ps ≤ i → (isSome (itemsAt s ps) && fits room (itemsBy s ps)) ≡ true
   unfolding areaBytes
-  room-end {room} {i} {left} x h = x .same ∙ ap (λ ts. leb (length (areaBytes ts)) left) (rest-none i h) ∙ le-leb 0 left (omega arith)
+  room-end {room} {i} {left} x h = x .same ∙ ap (λ o. within o left) (at-end i h) ∙ le-leb 0 left (omega arith)
 
   -- ---- a loop that writes them, at i: those before it are written up to `at`
 

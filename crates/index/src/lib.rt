@@ -1,6 +1,6 @@
 // An index of items in lent numbers: for each item the length of its key and the place where it begins. A key is found in it without a walk.
 ghost use mathlib.Core.Path.{_≡_};
-ghost use mathlib.Core.Bool.{true, cond};
+ghost use mathlib.Core.Bool.{true, _&&_, cond};
 ghost use Prim.Native.Nat.{_≤_, _<_, _+_, _-_};
 ghost use lib.Dec.{leb, ltb};
 ghost use lib.ListN.{length, take, drop};
@@ -221,7 +221,7 @@ fn put_changed(bytes: &mut [u8], used: usize, place: usize, stop: usize, value: 
 {
     let a = lists::put_u32_le(bytes, used, value.len() as u32);
     let b = copy_behind(bytes, place + 4, stop + 1, a);
-    lists::put(bytes, b, value)
+    lists::put_blocks(bytes, b, value)
 }
 
 // Sets the value of the first item with this key, by an index of the first `used` bytes: the item, which keeps its spelling, is written anew
@@ -327,10 +327,9 @@ fn room_in_file(room: usize) -> usize
     room
 }
 
-// Whether the items at the places fit into `room` bytes and into a file.
+// Whether an item begins at each place, and they fit into `room` bytes and into a file.
 fn items_fit(bytes: &[u8], places: &[usize], room: usize) -> bool
-    requires { ⌜ isSome (itemsAt (now bytes) (now places)) ≡ true ⌝ }
-    ensures { λ r. ⌜ r ≡ fits room (itemsBy (now (bytes .entry)) (now (places .entry))) ⌝ }
+    ensures { λ r. ⌜ r ≡ (isSome (itemsAt (now (bytes .entry)) (now (places .entry))) && fits room (itemsBy (now (bytes .entry)) (now (places .entry)))) ⌝ }
 {
     let mut left = room_in_file(room);
     let mut i = 0;
@@ -378,7 +377,7 @@ fn put_items(bytes: &[u8], places: &[usize], out: &mut [u8]) -> usize
         else {
             return at;
         };
-        at = lists::put_part(out, at, bytes, place, value_end);
+        at = lists::put_blocks(out, at, &bytes[place..value_end]);
         i += 1;
     }
     at
@@ -389,11 +388,11 @@ pub fn write_indexed(bytes: &[u8], places: &[usize], out: &mut [u8]) -> Edited
     ensures { λ r. ⌜ (let plan = collectPlan (now (bytes .entry)) (now (places .entry)) (length (now (out .entry))) in
         (r ≡ answer plan) × (now (out .exit) ≡ over (bytesOf plan) (now (out .entry)))) ⌝ }
 {
-    if !all_items(bytes, places) {
-        return Edited::Refused(Refusal::MalformedArea);
-    }
     if !items_fit(bytes, places, out.len()) {
-        return Edited::Refused(Refusal::NoRoom);
+        if all_items(bytes, places) {
+            return Edited::Refused(Refusal::NoRoom);
+        }
+        return Edited::Refused(Refusal::MalformedArea);
     }
     let n = put_items(bytes, places, out);
     Edited::Done {

@@ -103,21 +103,26 @@ fn put_16(out: &mut [u8], at: usize, src: &[u8]) -> usize
     put(out, at, &block)
 }
 
-// Writes all of `src` into `out` from `at`, sixteen bytes at a time, and answers where it ends.
-fn put_blocks(out: &mut [u8], at: usize, src: &[u8]) -> usize
+// Writes all of `src` into `out` from `at`, sixteen bytes at a time where there are as many, and answers where it ends. The last sixteen may
+// reach into what is written before them, and write the same there again.
+pub fn put_blocks(out: &mut [u8], at: usize, src: &[u8]) -> usize
     requires { ⌜ at + length (now src) ≤ length (now out) ⌝ }
     ensures { λ r. ⌜ (r ≡ at + length (now (src .entry))) × (now (out .exit) ≡ splice (now (out .entry)) at (now (src .entry))) ⌝ }
 {
+    if src.len() < 16 {
+        return put(out, at, src);
+    }
+    let last = src.len() - 16;
     let mut i = 0;
-    while 16 <= src.len() - i {
+    while i < last {
         let j = i + 16;
         put_16(out, at + i, &src[i..j]);
         i = j;
     }
-    put(out, at + i, &src[i..])
+    put_16(out, at + last, &src[last..])
 }
 
-// The same, a kibibyte of one half and a kibibyte of the other in turn: a machine reads ahead at both places.
+// The same for a long part, a kibibyte of one half and a kibibyte of the other in turn: a machine reads ahead at both places.
 fn put_halves(out: &mut [u8], at: usize, src: &[u8]) -> usize
     requires { ⌜ at + length (now src) ≤ length (now out) ⌝ }
     ensures { λ r. ⌜ (r ≡ at + length (now (src .entry))) × (now (out .exit) ≡ splice (now (out .entry)) at (now (src .entry))) ⌝ }

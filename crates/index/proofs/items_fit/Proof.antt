@@ -1,12 +1,12 @@
--- The invariant: all items fit where those that are left fit into `left` bytes.
+-- The invariant: all items are there and fit where those that are left are there and fit into `left` bytes.
 use mathlib.Core.Path.{sym, _∙_}
 use Prim.Native.Nat.{_-_}
 use native.Mathlib.Omega.{arith}
 use borrow.Author.Needs.{needs}
 use lib.ListN.{length, getD}
 use Rattle.items.specs.Items.{plainHead}
-use Rattle.items.proofs.Walk.{Taken, zero-flags, taken}
-use Rattle.index.proofs.Collecting.{Room, room-first, room-over, room-next, room-end, rest-never}
+use Rattle.items.proofs.Walk.{Taken, zero-flags, stopped, taken}
+use Rattle.index.proofs.Collecting.{Room, room-first, room-none, room-over, room-next, room-end}
 use Rattle.index.proofs.items_fit.Statement.{statement}
 use Rattle.index.proofs.items_fit.Tie as tie
 
@@ -19,12 +19,13 @@ abbrev μ-loop : tie.MeasureT-loop
 loop-holds : tie.Need-loop-holds Inv-loop μ-loop
 loop-holds c =
     let b = c .before .before .before in
-    room-first (b .args .bytes .now) (b .args .places .now) (b .args .room) _ (b .pre) (c .room-in-file .ensures)
+    room-first (b .args .bytes .now) (b .args .places .now) (b .args .room) _ (c .room-in-file .ensures)
 
 returns : tie.Need-returns Inv-loop μ-loop
 returns c =
     let l = c .before .before .before .before in
-    absurd (rest-never _ _ (l .loop .inv .rest) (omega arith) (c .before .step .result) (c .before .step .ensures) (c .match .keys2))
+    let g = l .before .before .before .before .args in
+    sym (room-none _ _ (l .loop .inv) (omega arith) (stopped zero-flags (g .bytes .now) _ (c .before .step .result) (c .before .step .ensures) (c .match .keys2)))
 
 -- the turn's item
 here : (c : tie.After-known-told Inv-loop μ-loop) → let l = c .before .before .before .before .before .before in let g = l .before .before .before .before .args in let v = c .before .s .given .0 in

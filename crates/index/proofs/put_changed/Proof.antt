@@ -13,8 +13,8 @@ use Rattle.index.proofs.Changing.{kept}
 use Rattle.index.proofs.put_changed.Statement.{statement}
 use Rattle.index.proofs.put_changed.Tie as tie
 
-put-requires : tie.Need-put-requires
-put-requires c κs =
+put-blocks-requires : tie.Need-put-blocks-requires
+put-blocks-requires c κs =
     let p2 = c .before .before .before in
     let p1 = p2 .before .before .before .before in
     let b = p1 .before .before .before .before in
@@ -38,7 +38,7 @@ returns c =
     let same = ap (part from to) (e1 .1) ∙ kept (g .bytes .now) size (g .used) from to (omega (arith, b .pre)) (omega (arith, b .pre)) (omega (arith, b .pre)) in
     let w1 = next (start (g .bytes .now) (g .used) (omega (arith, b .pre))) size e1 in
     let w2 = next w1 (part from to (take (g .used) (g .bytes .now))) (rw same at e2) in
-    done (next w2 (g .value .now) (p3 .put .ensures))
+    done (next w2 (g .value .now) (p3 .put-blocks .ensures))
 
 pub put-changed-spec : {M : Type 1} → statement M
 put-changed-spec =
@@ -49,6 +49,6 @@ put-changed-spec =
     (λ c. search needs)
     (λ c. search needs)
     (λ c κs. search needs)
-    put-requires
+    put-blocks-requires
     (λ c. search needs)
     returns)

@@ -1,9 +1,10 @@
 -- The invariant: the items before i are written, one after another.
 use mathlib.Core.Path.{sym, _∙_}
-use Prim.Native.Nat.{_-_}
+use Prim.Native.Nat.{_-_, _≤_}
 use native.Mathlib.Omega.{arith}
 use borrow.Author.Needs.{needs}
 use lib.ListN.{length, getD}
+use Rattle.lists.proofs.Places.{length-part}
 use Rattle.lists.proofs.Wrote.{next}
 use Rattle.items.specs.Items.{plainHead}
 use Rattle.items.proofs.Walk.{Taken, zero-flags, taken}
@@ -36,22 +37,26 @@ here c =
     let g = l .before .before .before .before .args in
     taken zero-flags (g .bytes .now) _ _ _ _ _ _ (sym (c .before .s .given .1) ∙ p .step .ensures)
 
-put-part-requires : tie.Need-put-part-requires Inv-loop μ-loop
-put-part-requires c κs =
-    let k = c .before in
-    let t = here k in
+-- it lies in the bytes
+inside : (c : tie.After-known-told Inv-loop μ-loop) → let l = c .before .before .before .before .before .before in let g = l .before .before .before .before .args in let v = c .before .s .given .0 in
+    (getD (g .places .now) (l .loop .i) 0 ≤ v .1 .1 .1 .1 .0) × (v .1 .1 .1 .1 .0 ≤ length (g .bytes .now))
+inside c = let t = here c in (omega (arith, t .value-end), t .within)
+
+put-blocks-requires : tie.Need-put-blocks-requires Inv-loop μ-loop
+put-blocks-requires c κs =
+    let k = c .before .before in
     let l = k .before .before .before .before .before .before in
     let b = l .before .before .before .before in
-    (omega (arith, t .value-end), t .within, write-room _ _ (l .loop .inv) (omega arith) t (b .pre .1))
+    let v = k .before .s .given .0 in
+    omega (arith, length-part (getD (b .args .places .now) (l .loop .i) 0) (v .1 .1 .1 .1 .0) (b .args .bytes .now) (inside k .1), write-room _ _ (l .loop .inv) (omega arith) (here k) (b .pre .1))
 
 loop-again : tie.Need-loop-again Inv-loop μ-loop
 loop-again c =
     let p = c .before .before in
-    let k = p .before .before in
+    let k = p .before .before .before in
     let l = k .before .before .before .before .before .before in
-    let e = p .put-part .ensures in
-    write-next _ _ (l .loop .inv) (omega arith) (here k) (λ i. omega (arith, l .before .before .before .shared-slice-known .given i)) _ _ (p .put-part .kept .0)
-    (next (l .loop .inv .wrote) _ (e .0, e .1))
+    write-next _ _ (l .loop .inv) (omega arith) (here k) (λ i. omega (arith, l .before .before .before .shared-slice-known .given i)) _ _ (p .put-blocks .kept .0)
+    (next (l .loop .inv .wrote) _ (p .put-blocks .ensures))
 
 returns-2 : tie.Need-returns-2 Inv-loop μ-loop
 returns-2 c = write-end _ _ (c .before .loop .inv) (omega arith)
@@ -69,7 +74,10 @@ put-items-spec =
     (λ c. search needs)
     (λ c. c .before .before .before .before .loop .inv .long)
     returns
-    put-part-requires
+    (λ c. inside (c .before) .0)
+    (λ c. inside (c .before) .0)
+    (λ c. inside (c .before) .1)
+    put-blocks-requires
     (λ c. omega arith)
     (λ c. omega arith)
     loop-again
