@@ -1643,6 +1643,16 @@ fn bench_set_indexed(b: &mut Bench, tag: &ApeTag, what: &str, number: usize, key
             index.set(key.as_bytes(), value.as_bytes())
         },
     );
+    // The library is given bytes, and tests that they are UTF-8.
+    let text = |bytes| std::str::from_utf8(std::hint::black_box(bytes)).unwrap();
+    b.row(
+        &format!("set_indexed, {what} (Rust: from_utf8 of key and value, set, a tag already parsed, in place)"),
+        || parsed.set(text(key.as_bytes()), text(value.as_bytes())),
+        || {
+            (index.places[number], index.entries, index.used) = (place, entries, used);
+            index.set(key.as_bytes(), value.as_bytes())
+        },
+    );
     assert_eq!((index.places[number], index.entries), (used, entries), "a set by an index did not find its item");
 }
 
