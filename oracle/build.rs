@@ -7,7 +7,7 @@
 use std::path::{Path, PathBuf};
 use std::{env, fs, process};
 
-/// What is appended to the copy of `ape.rs`: doors to its private functions.
+/// What is appended to the copy of `ape.rs`: functions that call its private ones.
 const REACH: &str = r#"
 #[allow(dead_code)]
 pub(crate) mod reach {
@@ -31,19 +31,8 @@ pub(crate) mod reach {
 "#;
 
 /// The library's archives, one for each module.
-const ARCHIVES: [&str; 11] = [
-    "c_frame",
-    "c_utf8",
-    "c_values",
-    "c_items",
-    "c_area",
-    "c_index",
-    "c_index_edit",
-    "c_ape",
-    "c_edit",
-    "c_level",
-    "c_list",
-];
+const ARCHIVES: [&str; 9] =
+    ["c_frame", "c_utf8", "c_values", "c_items", "c_area", "c_ape", "c_edit", "c_level", "c_list"];
 
 fn fail(text: &str) -> ! {
     eprintln!("oracle: {text}");

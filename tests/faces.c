@@ -1,4 +1,5 @@
-/* Each call of include/zibrunnos.h from C as it is done, and many of them refused: document 01's examples. */
+/* Each call of include/zibrunnos.h from C as it is done, and many of them refused; each slice as NULL with length 0; and each output with
+ * just the room that docs/LIBRARY.md says is enough. */
 #include "zibrunnos.h"
 #include <stdio.h>
 #include <string.h>
@@ -14,8 +15,8 @@ static void check(bool good, const char *what)
 }
 
 #define CHECK(e) check(e, #e)
-#define TEXT(s) (const uint8_t *)(s), sizeof(s) - 1
-#define NONE TEXT("")
+#define TEXT(s) ZIB_TEXT(s)
+#define NONE NULL, 0
 
 /* whether the first n bytes of b are this text */
 static bool is(const uint8_t *b, size_t n, const char *s, size_t len)
@@ -107,47 +108,6 @@ static void items(void)
     CHECK(zib_take_mp3gain(a, n, count, b, sizeof b, &start, &size) == 0 && start == 1 && IS(b, size, AREA));
 }
 
-/* key Ab, value c; the same with a longer value; and key CD, value d */
-#define SPELT "\1\0\0\0" "\0\0\0\0" "Ab\0" "c"
-#define LONGER "\6\0\0\0" "\0\0\0\0" "Ab\0" "longer"
-#define ADDED "\1\0\0\0" "\0\0\0\0" "CD\0" "d"
-
-static void indexed(void)
-{
-    uint8_t bytes[54] = SPELT, kept[54], out[29], marks[2] = {7, 7};
-    size_t places[2] = {7, 7}, wrong[1] = {1}, entries = 7, used = 7, count = 7, n = 7, start = 7, size = 7;
-    uint32_t there = 7;
-    CHECK(zib_index_items(bytes, 12, 2, marks, 2, places, 2, &entries, &used) == ZIB_MALFORMED_AREA && entries == 7 && used == 7);
-    CHECK(zib_index_items(bytes, 12, 1, marks, 0, places, 2, &entries, &used) == ZIB_NO_ROOM && places[0] == 7);
-    CHECK(zib_index_items(bytes, 12, 1, marks, 2, places, 0, &entries, &used) == ZIB_NO_ROOM && marks[0] == 7);
-    CHECK(zib_index_items(bytes, 12, 1, marks, 2, places, 2, &entries, &used) == 0 && entries == 1 && used == 12);
-    CHECK(marks[0] == 2 && places[0] == 0 && marks[1] == 7 && places[1] == 7);
-    CHECK(zib_get_indexed(bytes, used, marks, entries, places, entries, TEXT("aB"), &there, &start, &size) == 0);
-    CHECK(there == 1 && start == 11 && size == 1);
-    CHECK(zib_get_indexed(bytes, used, marks, entries, places, entries, TEXT("A"), &there, &start, &size) == ZIB_BAD_KEY && there == 1);
-    CHECK(zib_get_indexed(bytes, used, marks, entries, places, entries, TEXT("cd"), &there, &start, &size) == 0);
-    CHECK(there == 0 && start == 0 && size == 0);
-    CHECK(zib_set_indexed(bytes, sizeof bytes, marks, 2, places, 2, TEXT("AB"), TEXT("longer"), &entries, &used) == 0);
-    CHECK(entries == 1 && used == 29 && places[0] == 12 && IS(bytes, used, SPELT LONGER));
-    CHECK(zib_get_indexed(bytes, used, marks, entries, places, entries, TEXT("ab"), &there, &start, &size) == 0);
-    CHECK(there == 1 && start == 23 && IS(bytes + start, size, "longer"));
-    CHECK(zib_set_indexed(bytes, sizeof bytes, marks, 2, places, 2, TEXT("cd"), TEXT("d"), &entries, &used) == 0);
-    CHECK(entries == 2 && used == 41 && marks[1] == 2 && places[1] == 29 && IS(bytes, used, SPELT LONGER ADDED));
-    memcpy(kept, bytes, sizeof kept);
-    CHECK(zib_set_indexed(bytes, 40, marks, 2, places, 2, TEXT("cd"), TEXT("e"), &entries, &used) == ZIB_MALFORMED_AREA);
-    CHECK(zib_set_indexed(bytes, sizeof bytes, marks, 1, places, 2, TEXT("cd"), TEXT("e"), &entries, &used) == ZIB_MALFORMED_AREA);
-    CHECK(zib_set_indexed(bytes, sizeof bytes, marks, 2, places, 2, TEXT("tag"), TEXT("e"), &entries, &used) == ZIB_BAD_KEY);
-    CHECK(zib_set_indexed(bytes, sizeof bytes, marks, 2, places, 2, TEXT("cd"), TEXT("\xff"), &entries, &used) == ZIB_NOT_UTF8);
-    CHECK(zib_set_indexed(bytes, sizeof bytes, marks, 2, places, 2, TEXT("ef"), TEXT("e"), &entries, &used) == ZIB_NO_ROOM);
-    CHECK(zib_set_indexed(bytes, sizeof bytes, marks, 2, places, 2, TEXT("cd"), TEXT("too long"), &entries, &used) == ZIB_NO_ROOM);
-    CHECK(entries == 2 && used == 41 && places[0] == 12 && places[1] == 29 && memcmp(bytes, kept, sizeof kept) == 0);
-    CHECK(zib_write_indexed(bytes, used, wrong, 1, out, sizeof out, &count, &n) == ZIB_MALFORMED_AREA && count == 7 && n == 7);
-    CHECK(zib_write_indexed(bytes, used, places, entries, out, 28, &count, &n) == ZIB_NO_ROOM && count == 7 && n == 7);
-    CHECK(zib_write_indexed(bytes, used, places, entries, out, sizeof out, &count, &n) == 0 && count == 2 && IS(out, n, LONGER ADDED));
-    CHECK(zib_get(out, n, count, TEXT("AB"), &there, &start, &size) == 0 && there == 1 && IS(out + start, size, "longer"));
-    CHECK(zib_get(out, n, count, TEXT("CD"), &there, &start, &size) == 0 && there == 1 && IS(out + start, size, "d"));
-}
-
 static void files(void)
 {
     uint8_t out[1024], again[1024], left[2] = {10, 0}, right[1] = {0};
@@ -176,14 +136,143 @@ static void files(void)
     CHECK(zib_list_tag(NONE, text) == 11 && IS(text, 11, "items=none\n"));
 }
 
+/* Every slice of every call as NULL with length 0. */
+static void empty(void)
+{
+    uint8_t out[256], gain[1] = {9};
+    static uint8_t text[ZIB_LIST_ROOM];
+    uint32_t there = 7, flag = 7;
+    int32_t left = 7, right = 7;
+    size_t a = 7, b = 7, c = 7, d = 7;
+    CHECK(!zib_read_u32_le(NONE, 0, &flag) && flag == 7);
+    CHECK(!zib_ends_with_id3v1(NONE));
+    CHECK(zib_ape_tag_start(NONE, 0, &there, &a) == 0 && there == 0 && a == 0);
+    CHECK(zib_is_utf8(NONE));
+    CHECK(zib_lossy_size(NONE, 0, &a) == 0 && a == 0);
+    CHECK(zib_lossy_into(NONE, NONE, &a) == 0 && a == 0);
+    CHECK(zib_lossy_into(TEXT("x"), NONE, &a) == ZIB_NO_ROOM);
+    CHECK(zib_parse_undo(NONE, &left, &right, &flag) == 0 && left == 0 && right == 0 && flag == 0);
+    CHECK(zib_format_undo_value(1, 2, true, NONE, &a) == ZIB_NO_ROOM);
+    CHECK(zib_accumulate_undo(NONE, 5, -5, &left, &right) == 0 && left == -5 && right == 5);
+    CHECK(zib_format_minmax(1, 2, NONE, &a) == ZIB_NO_ROOM);
+    CHECK(!zib_range_wraps_out(NONE, NONE, 255) && !zib_range_wraps_out(TEXT("MP3GAIN_MINMAX"), NONE, 255));
+    a = 7;
+    CHECK(zib_shift_stored_value(NONE, NONE, 1, &flag, NONE, &a) == 0 && flag == 0 && a == 0);
+    CHECK(zib_shift_stored_value(TEXT("MP3GAIN_MINMAX"), TEXT("1,2"), 1, &flag, NONE, &a) == ZIB_NO_ROOM);
+    CHECK(zib_parse_slip(NONE, &left, &right, &flag) == ZIB_MALFORMED_SLIP);
+    CHECK(!zib_is_key(NONE) && zib_which_key(NONE) == 8);
+    CHECK(zib_item_at(NONE, 0, &there, &a, &b, &c, &d) == 0 && there == 0 && a == 0 && b == 0 && c == 0 && d == 0);
+    CHECK(zib_get(NONE, 0, TEXT("AB"), &there, &a, &b) == 0 && there == 0);
+    CHECK(zib_get(NONE, 0, NONE, &there, &a, &b) == ZIB_BAD_KEY && zib_get(NONE, 1, NONE, &there, &a, &b) == ZIB_MALFORMED_AREA);
+    CHECK(zib_get_undo_gain(NONE, 0, &there, &left) == 0 && there == 0 && left == 0);
+    CHECK(zib_set(NONE, 0, TEXT("AB"), NONE, out, sizeof out, &a, &b) == 0 && a == 1 && b == 11);
+    CHECK(zib_set(NONE, 0, NONE, NONE, NONE, &a, &b) == ZIB_BAD_KEY && zib_set(NONE, 0, TEXT("AB"), NONE, NONE, &a, &b) == ZIB_NO_ROOM);
+    CHECK(zib_remove(NONE, 0, TEXT("AB"), NONE, &a, &b) == 0 && a == 0 && b == 0 && zib_remove(NONE, 0, NONE, NONE, &a, &b) == ZIB_BAD_KEY);
+    CHECK(zib_remove_replaygain(NONE, 0, NONE, &a, &b) == 0 && a == 0 && b == 0);
+    CHECK(zib_drop_undone(NONE, 0, NONE, &a, &b) == 0 && a == 0 && b == 0);
+    CHECK(zib_take_mp3gain(NONE, 0, NONE, &a, &b) == 0 && a == 0 && b == 0);
+    CHECK(zib_set_undo_gain(NONE, 0, 1, 2, true, out, sizeof out, &a, &b) == 0 && zib_set_undo_gain(NONE, 0, 1, 2, true, NONE, &a, &b) == ZIB_NO_ROOM);
+    CHECK(zib_set_minmax(NONE, 0, 1, 2, out, sizeof out, &a, &b) == 0 && zib_set_minmax(NONE, 0, 1, 2, NONE, &a, &b) == ZIB_NO_ROOM);
+    CHECK(zib_set_replaygain(NONE, 0, NONE, NONE, NONE, NONE, NONE, NONE, &a, &b) == 0 && a == 0 && b == 0);
+    CHECK(zib_set_replaygain(NONE, 0, NONE, NONE, NONE, NONE, TEXT("x"), NONE, &a, &b) == ZIB_NO_ROOM);
+    CHECK(zib_shift_stored_gain(NONE, 0, 1, true, NONE, &a, &b) == 0 && a == 0 && b == 0);
+    CHECK(zib_find_ape_footer(NONE, &there, &a) == 0 && there == 0 && a == 0);
+    CHECK(zib_read_ape_tag(NONE, NONE, &there, &a, &b) == 0 && there == 0);
+    CHECK(zib_read_ape_tag(TEXT(TAG), NONE, &there, &a, &b) == ZIB_NO_ROOM);
+    CHECK(zib_serialize_ape_tag(NONE, 0, NONE, &a) == 0 && a == 0 && zib_serialize_ape_tag(TEXT(AREA), 1, NONE, &a) == ZIB_NO_ROOM);
+    CHECK(zib_split_ape_tag(NONE, &a, &b, &c) == 0 && a == 0 && b == 0 && c == 0);
+    CHECK(zib_replace_ape_tag(NONE, NONE, 0, NONE, &a) == 0 && a == 0 && zib_replace_ape_tag(NONE, TEXT(AREA), 1, NONE, &a) == ZIB_NO_ROOM);
+    CHECK(zib_gate(NONE, &a, &b, &c) == 0 && a == 0 && b == 0 && c == 0);
+    CHECK(zib_set_ape_item(NONE, TEXT("AB"), NONE, out, sizeof out, &a) == 0 && a == 75);
+    CHECK(zib_set_ape_item(NONE, NONE, NONE, NONE, &a) == ZIB_BAD_KEY && zib_set_ape_item(NONE, TEXT("AB"), NONE, NONE, &a) == ZIB_NO_ROOM);
+    CHECK(zib_remove_ape_item(NONE, TEXT("AB"), NONE, &a) == 0 && a == 0 && zib_remove_ape_item(NONE, NONE, NONE, &a) == ZIB_BAD_KEY);
+    CHECK(zib_level(NONE, NONE, NONE, 1, 1, false, NONE, &a, &b) == ZIB_NO_LEFT_GAINS);
+    CHECK(zib_level(NONE, gain, 1, NONE, 1, 1, false, NONE, &a, &b) == ZIB_NO_ROOM && gain[0] == 9);
+    CHECK(zib_level(NONE, gain, 1, NONE, 1, 1, false, out, sizeof out, &a, &b) == 0 && gain[0] == 10 && a == 126);
+    CHECK(zib_undo(NONE, NONE, NONE, NONE, &c, &d) == ZIB_NO_LEFT_GAINS && zib_undo(NONE, gain, 1, NONE, NONE, &c, &d) == ZIB_NO_UNDO);
+    CHECK(zib_undo(out, a, gain, 1, NONE, NONE, &c, &d) == 0 && gain[0] == 9 && c == 0);
+    CHECK(zib_list_tag(NONE, text) == 11 && IS(text, 11, "items=none\n"));
+}
+
+/* a footer of a tag without a header: its size and its count have two bytes each */
+#define BARE(size, count) "APETAGEX" "\xd0\7\0\0" size "\0\0" count "\0\0" "\0\0\0\0" "\0\0\0\0" "\0\0\0\0"
+#define UNDO "\0\0\0\0" "\0\0\0\0" "MP3GAIN_UNDO\0"
+#define GAIN "\10\0\0\0" "\0\0\0\0" "REPLAYGAIN_ALBUM_GAIN\0" "9.000000"
+enum { GAINS = ZIB_ITEM_LIMIT - 2, GAIN_LEN = sizeof(GAIN) - 1 };
+
+/* Room that docs/LIBRARY.md says is enough, where it is needed to the byte, and a byte less. */
+static void rooms(void)
+{
+    static uint8_t area[GAINS * GAIN_LEN], file[GAINS * GAIN_LEN + 32], out[GAINS * GAIN_LEN + 32 * ZIB_ITEM_LIMIT + 200];
+    uint8_t gain[1] = {9};
+    uint32_t there = 7;
+    size_t a = 7, b = 7;
+    CHECK(zib_undo(TEXT(UNDO AREA BARE("\x41\0", "\2\0")), gain, 1, NONE, out, 65 + 11, &a, &b) == 0 && IS(out, a, TAG));
+    CHECK(zib_undo(TEXT(UNDO AREA BARE("\x41\0", "\2\0")), gain, 1, NONE, out, 65 + 10, &a, &b) == ZIB_NO_ROOM);
+    CHECK(zib_set_ape_item(TEXT("audio"), TEXT("ab"), TEXT("c"), out, 5 + 2 + 1 + 73, &a) == 0 && IS(out, a, "audio" TAG));
+    CHECK(zib_set_ape_item(TEXT("audio"), TEXT("ab"), TEXT("c"), out, 5 + 2 + 1 + 72, &a) == ZIB_NO_ROOM);
+    CHECK(zib_remove_ape_item(TEXT(AREA BARE("\x2c\0", "\1\0")), TEXT("xy"), out, 44 + 32, &a) == 0 && IS(out, a, TAG));
+    CHECK(zib_remove_ape_item(TEXT(AREA BARE("\x2c\0", "\1\0")), TEXT("xy"), out, 44 + 31, &a) == ZIB_NO_ROOM);
+    CHECK(zib_replace_ape_tag(TEXT("audio"), TEXT(AREA), 1, out, 5 + 12 + 64, &a) == 0 && IS(out, a, "audio" TAG));
+    CHECK(zib_replace_ape_tag(TEXT("audio"), TEXT(AREA), 1, out, 5 + 12 + 63, &a) == ZIB_NO_ROOM);
+    CHECK(zib_serialize_ape_tag(TEXT(AREA), 1, out, 12 + 64, &a) == 0 && zib_serialize_ape_tag(TEXT(AREA), 1, out, 12 + 63, &a) == ZIB_NO_ROOM);
+    CHECK(zib_lossy_into(TEXT("\xff\xff"), out, 6, &a) == 0 && a == 6 && zib_lossy_into(TEXT("\xff\xff"), out, 5, &a) == ZIB_NO_ROOM);
+    CHECK(zib_set(TEXT(AREA), 1, TEXT("cd"), TEXT("e"), out, 12 + 2 + 1 + 9, &a, &b) == 0 && b == 24);
+    CHECK(zib_set(TEXT(AREA), 1, TEXT("cd"), TEXT("e"), out, 12 + 2 + 1 + 8, &a, &b) == ZIB_NO_ROOM);
+    CHECK(zib_remove(TEXT(AREA), 1, TEXT("cd"), out, 12, &a, &b) == 0 && zib_remove(TEXT(AREA), 1, TEXT("cd"), out, 11, &a, &b) == ZIB_NO_ROOM);
+    CHECK(zib_remove_replaygain(TEXT(AREA), 1, out, 12, &a, &b) == 0 && zib_remove_replaygain(TEXT(AREA), 1, out, 11, &a, &b) == ZIB_NO_ROOM);
+    CHECK(zib_drop_undone(TEXT(AREA), 1, out, 12, &a, &b) == 0 && zib_drop_undone(TEXT(AREA), 1, out, 11, &a, &b) == ZIB_NO_ROOM);
+    CHECK(zib_take_mp3gain(TEXT(AREA), 1, out, 12, &a, &b) == 0 && zib_take_mp3gain(TEXT(AREA), 1, out, 11, &a, &b) == ZIB_NO_ROOM);
+    CHECK(zib_set_undo_gain(TEXT(AREA), 1, INT32_MIN, INT32_MIN, true, out, 12 + 46, &a, &b) == 0 && b == 58);
+    CHECK(zib_set_undo_gain(TEXT(AREA), 1, INT32_MIN, INT32_MIN, true, out, 12 + 45, &a, &b) == ZIB_NO_ROOM);
+    CHECK(zib_set_minmax(TEXT(AREA), 1, 0, 255, out, 12 + 30, &a, &b) == 0 && zib_set_minmax(TEXT(AREA), 1, 0, 255, out, 12 + 29, &a, &b) == ZIB_NO_ROOM);
+    CHECK(zib_set_replaygain(TEXT(AREA), 1, TEXT("a"), TEXT("b"), TEXT("c"), TEXT("d"), TEXT("e"), out, 12 + 149 + 5, &a, &b) == 0 && b == 166);
+    CHECK(zib_set_replaygain(TEXT(AREA), 1, TEXT("a"), TEXT("b"), TEXT("c"), TEXT("d"), TEXT("e"), out, 12 + 149 + 4, &a, &b) == ZIB_NO_ROOM);
+    CHECK(zib_format_undo_value(INT32_MIN, INT32_MIN, true, out, 25, &a) == 0 && zib_format_undo_value(INT32_MIN, INT32_MIN, true, out, 24, &a) == ZIB_NO_ROOM);
+    CHECK(zib_format_minmax(0, 255, out, 7, &a) == 0 && zib_format_minmax(0, 255, out, 6, &a) == ZIB_NO_ROOM);
+    /* The most that reading grows, and as many gain texts as level can move, each of which grows by 6 bytes. */
+    CHECK(zib_read_ape_tag(TEXT("\2\0\0\0" "\0\0\0\0" "\xff\xff\0" "\xff\xff" BARE("\x2d\0", "\1\0")), out, 3 * 45, &there, &a, &b) == 0 && b == 21);
+    for (size_t i = 0; i < GAINS; i++)
+        memcpy(area + i * GAIN_LEN, GAIN, GAIN_LEN);
+    memcpy(file, area, sizeof area);
+    memcpy(file + sizeof area, BARE("\0\0", "\0\0"), 32);
+    file[sizeof area + 12] = (uint8_t)sizeof file, file[sizeof area + 13] = (uint8_t)(sizeof file >> 8), file[sizeof area + 16] = (uint8_t)GAINS;
+    CHECK(zib_shift_stored_gain(area, sizeof area, GAINS, -255, false, out, sizeof area + 32 * GAINS, &a, &b) == 0 && b == sizeof area + 6 * GAINS);
+    CHECK(zib_level(file, sizeof file, gain, 1, NONE, -255, -255, false, out, sizeof file + 32 * GAINS + 140, &a, &b) == 0);
+    CHECK(a == sizeof file + 32 + 6 * GAINS + 62);
+}
+
+/* The limits of the header are those of the library: each is reached, and passed by one. */
+static void limits(void)
+{
+    static uint8_t file[ZIB_FILE_LIMIT + 1], area[11 + ZIB_AREA_LIMIT], one[ZIB_AREA_LIMIT + 200], two[ZIB_AREA_LIMIT + 200], text[ZIB_LIST_ROOM];
+    uint8_t key[4] = "K000";
+    size_t n = 0, m = 0, count = 0, start = 0, end = 0;
+    uint32_t there = 7;
+    CHECK(zib_find_ape_footer(file, ZIB_FILE_LIMIT, &there, &n) == 0 && zib_find_ape_footer(file, ZIB_FILE_LIMIT + 1, &there, &n) == ZIB_FILE_TOO_LONG);
+    CHECK(zib_list_tag(file, ZIB_LIST_LIMIT, text) == 11 && zib_list_tag(file, ZIB_LIST_LIMIT + 1, text) == 10);
+    n = 0;
+    for (int i = 0; i < ZIB_ITEM_LIMIT; i++) {
+        key[1] = (uint8_t)('0' + i / 100), key[2] = (uint8_t)('0' + i / 10 % 10), key[3] = (uint8_t)('0' + i % 10);
+        CHECK(zib_set_ape_item(i % 2 ? two : one, n, key, 4, NONE, i % 2 ? one : two, sizeof one, &n) == 0);
+    }
+    const uint8_t *full = ZIB_ITEM_LIMIT % 2 ? two : one;
+    CHECK(zib_gate(full, n, &start, &end, &count) == 0 && count == ZIB_ITEM_LIMIT);
+    CHECK(zib_set_ape_item(full, n, TEXT("one more"), NONE, file, sizeof file, &m) == ZIB_TAG_TOO_LARGE);
+    CHECK(zib_set_ape_item(NONE, TEXT("AB"), area, ZIB_AREA_LIMIT - 11, file, sizeof file, &m) == 0 && m == ZIB_AREA_LIMIT + 64);
+    CHECK(zib_set_ape_item(NONE, TEXT("AB"), area, ZIB_AREA_LIMIT - 10, file, sizeof file, &m) == ZIB_TAG_TOO_LARGE);
+}
+
 int main(void)
 {
     frame();
     utf8();
     values();
     items();
-    indexed();
     files();
+    empty();
+    rooms();
+    limits();
     printf("faces: %d failed\n", failed);
     return failed != 0;
 }

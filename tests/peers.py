@@ -113,6 +113,16 @@ for name, channels, rate, options in kinds:
     run(loop, "undo", path)
     check(read(path) == first, f"{name}: undo does not give the file back")
 
+    # Steps for each side: not in joint stereo, and of one channel the left ones count.
+    done = run(loop, "level", path, "3", "2")
+    if "j" in options:
+        check(done.returncode == 1 and "joint stereo" in done.stderr, f"{name}: unequal steps: {done.stderr}")
+    else:
+        stored = "-003,-003,N" if channels == 1 else "-003,-002,N"
+        check(listed(path).get("MP3GAIN_UNDO") == stored, f"{name}: unequal steps store {listed(path)}")
+        run(loop, "undo", path)
+    check(read(path) == first, f"{name}: unequal steps do not give the file back")
+
     # mp3gain takes back what we did, but for its own items.
     with open(path, "wb") as f:
         f.write(levelled)
@@ -124,6 +134,12 @@ for name, channels, rate, options in kinds:
         f.write(first)
     run("mp3gain", "-q", "-g", "3", path)
     check(listed(path).get("MP3GAIN_UNDO") == "-003,-003,N", f"{name}: mp3gain stores {listed(path)}")
+    theirs = read(path)
+    with open(path + ".ours.mp3", "wb") as f:
+        f.write(first)
+    run(loop, "level", path + ".ours.mp3", "3", "3")
+    sound_end = len(first) - (128 if name == "id3v1" else 0)
+    check(read(path + ".ours.mp3")[:sound_end] == theirs[:sound_end], f"{name}: mp3gain moves the sound otherwise")
     run(loop, "level", path, "2", "2")
     check(listed(path).get("MP3GAIN_UNDO") == "-005,-005,N", f"{name}: after mp3gain and us {listed(path)}")
     run(loop, "undo", path)

@@ -2,8 +2,7 @@
 
 use std::path::PathBuf;
 
-const MODULES: [&str; 11] =
-    ["frame", "utf8", "values", "items", "area", "index", "index_edit", "ape", "edit", "level", "list"];
+const MODULES: [&str; 9] = ["frame", "utf8", "values", "items", "area", "ape", "edit", "level", "list"];
 
 fn main() {
     println!("cargo:rerun-if-env-changed=ZIBRUNNOS_ARCHIVES");

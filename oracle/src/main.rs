@@ -4,8 +4,8 @@
 //!     oracle compare [--seed N] [--count N] [NAME..]  compare both on generated inputs; the first difference ends it with status 1;
 //!                                                     `--long` is ten times the count; `--every` adds to `values` every short gain
 //!                                                     text at every step, a quarter of an hour on two cores
-//!     oracle bench   [NAME..]                       time both sides in one run, and print their ratios
-//!     oracle once    [NAME..]                       run each side of each row of the bench once, between marks: `oracle/bench` counts with it
+//!     oracle bench   [--ten] [NAME..]                 time both sides in one run, and print their ratios; `--ten` takes the ten rows of docs/BENCH.md
+//!     oracle once    [--ten] [NAME..]                 run each side of each row of the bench once, between marks: `oracle/bench` counts with it
 //!
 //! NAME is a module of `cases`; without one, all of them. README.md says how to add one.
 
@@ -28,11 +28,11 @@ mod cases;
 mod tools;
 
 use std::process::exit;
-use tools::{Bench, Compare, Record};
+use tools::{Bench, Compare, Record, TEN};
 
 fn usage() -> ! {
     eprintln!(
-        "usage: oracle record [--seed N] [--check] [NAME..] | compare [--seed N] [--count N | --long] [--every] [NAME..] | bench [NAME..] | once [NAME..]"
+        "usage: oracle record [--seed N] [--check] [NAME..] | compare [--seed N] [--count N | --long] [--every] [NAME..] | bench [--ten] [NAME..] | once [--ten] [NAME..]"
     );
     exit(2)
 }
@@ -40,7 +40,8 @@ fn usage() -> ! {
 fn main() {
     let mut args = std::env::args().skip(1);
     let command = args.next().unwrap_or_else(|| usage());
-    let (mut seed, mut count, mut every, mut check, mut names) = (1u64, 1_000_000u64, false, false, Vec::new());
+    let (mut seed, mut count, mut every, mut check, mut ten) = (1u64, 1_000_000u64, false, false, false);
+    let mut names = Vec::new();
     while let Some(arg) = args.next() {
         let mut number = || args.next().and_then(|v| v.replace('_', "").parse().ok()).unwrap_or_else(|| usage());
         match arg.as_str() {
@@ -49,6 +50,7 @@ fn main() {
             "--long" => count = 10_000_000,
             "--every" => every = true,
             "--check" => check = true,
+            "--ten" => ten = true,
             name if cases::ALL.iter().any(|c| c.name == name) => names.push(name.to_string()),
             _ => usage(),
         }
@@ -73,10 +75,11 @@ fn main() {
             println!("oracle: {all} inputs, no difference");
         }
         "bench" | "once" => {
-            let mut b = Bench::new(command == "once");
+            let mut b = Bench::new(command == "once", ten.then_some(&TEN));
             for case in chosen {
                 (case.bench)(&mut b);
             }
+            assert!(b.is_whole() || !names.is_empty(), "a row of the ten has another name");
             if command == "bench" {
                 b.print();
             }

@@ -146,7 +146,7 @@ pub struct Record {
     name: &'static str,
     pub rng: Rng,
     text: String,
-    /// Files of the crates, with what stands in them.
+    /// Files, seen from the root, with what stands in them.
     files: Vec<(String, Vec<u8>)>,
 }
 
@@ -163,10 +163,10 @@ impl Record {
         self.text.push('\n');
     }
 
-    /// A run of the program of this name: what it reads and what it must write.
-    pub fn run(&mut self, program: &str, stdin: &[u8], stdout: &[u8]) {
-        self.files.push((format!("{program}/stdin"), stdin.to_vec()));
-        self.files.push((format!("{program}/stdout"), stdout.to_vec()));
+    /// A run of a program: the file with what it reads and the one with what it must write, seen from the root.
+    pub fn run(&mut self, [reads, writes]: [&str; 2], input: &[u8], output: &[u8]) {
+        self.files.push((reads.to_string(), input.to_vec()));
+        self.files.push((writes.to_string(), output.to_vec()));
     }
 
     /// Writes the files, or, to check, holds the written ones against them. A module that records nothing has none.
@@ -177,15 +177,17 @@ impl Record {
         }
         let runs = self.files.len() / 2;
         assert!(self.text.len() < 1 << 20, "the replaying program has room for 1 MiB");
-        self.files.push((format!("{}_vectors/stdin", self.name), self.text.into_bytes()));
-        let crates = Path::new(env!("CARGO_MANIFEST_DIR")).join("../crates");
+        self.files.push((format!("crates/{}_vectors/stdin", self.name), self.text.into_bytes()));
+        let root = Path::new(env!("CARGO_MANIFEST_DIR")).join("..");
         for (file, bytes) in &self.files {
-            let path = crates.join(file);
+            let path = root.join(file);
             let fail = |text: &str| -> ! {
                 println!("oracle: {file} {text}");
                 std::process::exit(1)
             };
             if !check {
+                let folder = path.parent().unwrap();
+                std::fs::create_dir_all(folder).unwrap_or_else(|e| fail(&e.to_string()));
                 std::fs::write(&path, bytes).unwrap_or_else(|e| fail(&e.to_string()));
             } else if std::fs::read(&path).unwrap_or_else(|e| fail(&e.to_string())) != *bytes {
                 fail("is not what `oracle record` writes");
@@ -205,7 +207,23 @@ pub fn digest(bytes: impl Iterator<Item = u8>) -> u64 {
 pub struct Bench {
     rows: Vec<(String, f64, f64)>,
     once: bool,
+    /// The rows to measure, where not all of them, in the order to print them.
+    only: Option<&'static [&'static str]>,
 }
+
+/// The ten rows of docs/BENCH.md.
+pub const TEN: [&str; 10] = [
+    "read_ape_tag, 41 items",
+    "get, the last of 41 items, keys of many lengths (both from a file's bytes)",
+    "set_ape_item on a file of 4 KiB, 41 items (Rust: read, set, replace; no gate)",
+    "serialize_ape_tag, 41 items",
+    "replace_ape_tag, 4 KiB",
+    "replace_ape_tag, 1 MiB",
+    "replace_ape_tag, 16 MiB",
+    "level on a file of 4 KiB, 41 items, 10,000 gains, N (Rust: read, accumulate, shift, adjust, set, replace; no gate)",
+    "undo on a file of 4 KiB, 41 items, 10,000 gains (Rust: read, adjust, remove, replace; no gate)",
+    "list_tag, 41 items (Rust: its reader, and a text of its items)",
+];
 
 /// Where `oracle/bench` has callgrind cut its count.
 #[no_mangle]
@@ -215,8 +233,8 @@ pub extern "C" fn oracle_mark() {
 }
 
 impl Bench {
-    pub fn new(once: bool) -> Self {
-        Bench { rows: Vec::new(), once }
+    pub fn new(once: bool, only: Option<&'static [&'static str]>) -> Self {
+        Bench { rows: Vec::new(), once, only }
     }
 
     /// The best time of many rounds, the two sides in turn, each round some milliseconds long.
@@ -228,6 +246,9 @@ impl Bench {
             }
             start.elapsed().as_secs_f64() / turns as f64
         }
+        if self.only.is_some_and(|only| !only.contains(&what)) {
+            return;
+        }
         if self.once {
             // A first call of either may set things up.
             black_box((published(), ours()));
@@ -237,6 +258,7 @@ impl Bench {
             black_box(ours());
             oracle_mark();
             println!("{what}");
+            self.rows.push((what.to_string(), 0.0, 0.0));
             return;
         }
         let mut turns = 1;
@@ -251,7 +273,15 @@ impl Bench {
         self.rows.push((what.to_string(), a, b));
     }
 
-    pub fn print(&self) {
+    /// Whether every row that was asked for was there.
+    pub fn is_whole(&self) -> bool {
+        self.only.is_none_or(|only| only.len() == self.rows.len())
+    }
+
+    pub fn print(mut self) {
+        if let Some(only) = self.only {
+            self.rows.sort_by_key(|row| only.iter().position(|what| *what == row.0));
+        }
         println!("| call | published Rust | library | ratio |\n|---|---|---|---|");
         for (what, a, b) in &self.rows {
             println!("| {what} | {} | {} | {:.2} |", time(*a), time(*b), b / a);

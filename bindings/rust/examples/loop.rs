@@ -2,17 +2,24 @@
 //!
 //!     loop level FILE LEFT RIGHT [N|W]    move the gains of either side by so many steps; N, the default, holds them within 0..255
 //!     loop undo FILE                      bring them back, and take mp3gain's items out of the tag
-//!     loop list FILE                      list the tag
+//!     loop list FILE                      list the tag in the last 16,384 bytes
 //!
-//! The file is replaced as a whole, or not at all. An MP3 with one channel has left gains only.
+//! The file is replaced as a whole, or not at all. A link is followed; owner, mode and times are kept; a read-only file is refused. Where the file
+//! has a second name (a hard link), that name keeps the old bytes.
+//!
+//! An MP3 with one channel moves by LEFT, which is stored for both sides. In joint stereo the two channels may be the sum and the difference of
+//! left and right, so both have to move by the same number of steps. What is no frame is left as it is, and a line says how many bytes that were.
 
-use std::fs;
-use std::io::Write;
+use std::ffi::OsString;
+use std::fs::{self, File, FileTimes, Metadata, OpenOptions};
+use std::io::{self, Read, Seek, SeekFrom, Write};
+use std::os::unix::fs::{fchown, MetadataExt, OpenOptionsExt};
 use std::path::Path;
-use std::process::exit;
-use zibrunnos::{level, list_tag, undo, Levelled, Mode};
+use std::process::ExitCode;
+use zibrunnos::{find_footer, level, list_tag, read_u32_le, split_tag, undo, Mode, Refusal};
 
-/// Where a frame stands, how long it is, and what its header says of its side information.
+/// Where a frame stands, how long it is, and what its header says of its channels and its side information.
+#[derive(Debug, PartialEq)]
 struct Frame {
     at: usize,
     len: usize,
@@ -21,13 +28,15 @@ struct Frame {
     crc: bool,
     mpeg1: bool,
     channels: usize,
+    joint: bool,
 }
 
 impl Frame {
-    /// The layer III frame at this place.
-    fn at(file: &[u8], at: usize) -> Option<Frame> {
-        let h = file.get(at..at + 4)?;
-        if h[0] != 0xFF || h[1] & 0xE6 != 0xE2 || h[1] & 0x18 == 0x08 {
+    /// The layer III frame at this place, if it ends by the end of the sound.
+    fn at(sound: &[u8], at: usize) -> Option<Frame> {
+        let h = sound.get(at..at + 4)?;
+        // Eleven bits to find it by, no reserved version, layer III, no reserved emphasis.
+        if h[0] != 0xFF || h[1] & 0xE6 != 0xE2 || h[1] & 0x18 == 0x08 || h[3] & 3 == 2 {
             return None;
         }
         let mpeg1 = h[1] & 0x18 == 0x18;
@@ -46,7 +55,8 @@ impl Frame {
         };
         let len = if mpeg1 { 144 } else { 72 } * bits / hertz + pad;
         let side = at + 4 + if crc { 2 } else { 0 };
-        (side + side_len <= at + len && at + len <= file.len()).then_some(Frame {
+        let joint = h[3] >> 6 == 1;
+        (side + side_len <= at + len && at + len <= sound.len()).then_some(Frame {
             at,
             len,
             side,
@@ -54,13 +64,14 @@ impl Frame {
             crc,
             mpeg1,
             channels,
+            joint,
         })
     }
 
     /// Whether it holds an encoder's table in place of sound.
-    fn is_table(&self, file: &[u8]) -> bool {
+    fn is_table(&self, sound: &[u8]) -> bool {
         let at = self.side + self.side_len;
-        file.get(at..at + 4).is_some_and(|m| m == b"Xing" || m == b"Info")
+        sound.get(at..at + 4).is_some_and(|m| m == b"Xing" || m == b"Info")
     }
 
     /// Where the gains of a channel stand, in bits from the start of the side information.
@@ -75,19 +86,16 @@ impl Frame {
         (0..granules).map(move |granule| first + (granule * channels + channel) * size + 21)
     }
 
-    /// Writes the check sum of the header's last two bytes and the side information.
-    fn sum(&self, file: &mut [u8]) {
-        if !self.crc {
-            return;
-        }
+    /// The check sum of the header's last two bytes and the side information.
+    fn sum(&self, sound: &[u8]) -> u16 {
         let mut crc: u16 = 0xFFFF;
-        for &b in file[self.at + 2..self.at + 4].iter().chain(&file[self.side..self.side + self.side_len]) {
+        for &b in sound[self.at + 2..self.at + 4].iter().chain(&sound[self.side..self.side + self.side_len]) {
             for bit in (0..8).rev() {
                 let flips = (crc >> 15) as u8 ^ (b >> bit & 1) == 1;
                 crc = crc << 1 ^ if flips { 0x8005 } else { 0 };
             }
         }
-        file[self.at + 4..self.at + 6].copy_from_slice(&crc.to_be_bytes());
+        crc
     }
 }
 
@@ -101,154 +109,231 @@ fn put(side: &mut [u8], bit: usize, gain: u8) {
     side[at..at + 2].copy_from_slice(&(kept | (gain as u16) << shift).to_be_bytes());
 }
 
-/// The frames with sound, behind an ID3v2 tag.
-fn frames(file: &[u8]) -> Vec<Frame> {
-    let mut at = 0;
-    if file.len() > 10 && file.starts_with(b"ID3") {
-        at = 10
-            + file[6..10].iter().fold(0, |n, &b| n << 7 | b as usize & 0x7F)
-            + if file[5] & 0x10 != 0 { 10 } else { 0 };
-    }
-    let mut all = Vec::new();
-    while let Some(frame) = Frame::at(file, at) {
-        at += frame.len;
-        if !frame.is_table(file) {
-            all.push(frame);
-        }
-    }
-    all
+/// How long the ID3v2 tag is that begins here.
+fn id3v2(sound: &[u8]) -> Option<usize> {
+    let h = sound.get(..10)?;
+    let good = h.starts_with(b"ID3") && h[3] < 0xFF && h[4] < 0xFF && h[6..].iter().all(|b| b & 0x80 == 0);
+    let size = h[6..].iter().fold(0, |n, &b| n << 7 | b as usize);
+    let len = 10 + size + if h[5] & 0x10 != 0 { 10 } else { 0 };
+    (good && len <= sound.len()).then_some(len)
 }
 
-/// The gains of one side.
-fn gains(file: &[u8], frames: &[Frame], channel: usize) -> Vec<u8> {
-    let of = |f: &Frame| f.gains(channel).map(|bit| get(&file[f.side..f.side + f.side_len], bit)).collect::<Vec<_>>();
+/// The frames with sound, and how many bytes are neither a frame nor an ID3v2 tag. It goes from the end of one frame or tag to the next, and one
+/// byte on where there is none. No gain and no check sum stands in a byte that this walk looks at, so an undo finds the frames that were levelled.
+fn walk(sound: &[u8]) -> (Vec<Frame>, usize) {
+    let (mut frames, mut left, mut at) = (Vec::new(), 0, 0);
+    while at < sound.len() {
+        if let Some(len) = id3v2(&sound[at..]) {
+            at += len;
+        } else if let Some(frame) = Frame::at(sound, at) {
+            at += frame.len;
+            if !frame.is_table(sound) {
+                frames.push(frame);
+            }
+        } else {
+            at += 1;
+            left += 1;
+        }
+    }
+    (frames, left)
+}
+
+/// The gains of one side, in the order of the sound.
+fn gains(sound: &[u8], frames: &[Frame], channel: usize) -> Vec<u8> {
+    let of = |f: &Frame| f.gains(channel).map(|bit| get(&sound[f.side..f.side + f.side_len], bit)).collect::<Vec<_>>();
     frames.iter().filter(|f| channel < f.channels).flat_map(of).collect()
 }
 
-fn put_gains(file: &mut [u8], frames: &[Frame], channel: usize, gains: &[u8]) {
-    let mut gains = gains.iter();
-    for f in frames.iter().filter(|f| channel < f.channels) {
-        for bit in f.gains(channel) {
-            put(&mut file[f.side..f.side + f.side_len], bit, *gains.next().unwrap());
+/// Puts the gains of both sides back where they stood. A check sum changes by as much as that of the new bytes differs from that of the old ones:
+/// one that was right stays right, and one that was wrong comes back with the undo.
+fn put_gains(file: &mut [u8], frames: &[Frame], gains: [&[u8]; 2]) {
+    let mut gains = gains.map(|list| list.iter());
+    for f in frames {
+        let before = f.sum(file);
+        for (channel, list) in gains.iter_mut().enumerate().take(f.channels) {
+            for (bit, gain) in f.gains(channel).zip(list.by_ref()) {
+                put(&mut file[f.side..f.side + f.side_len], bit, *gain);
+            }
         }
-        f.sum(file);
+        if f.crc {
+            let stored = u16::from_be_bytes([file[f.at + 4], file[f.at + 5]]);
+            let sum = stored ^ before ^ f.sum(file);
+            file[f.at + 4..f.at + 6].copy_from_slice(&sum.to_be_bytes());
+        }
     }
 }
 
-/// A file with its gains and its tag changed by one call. The sound stands at the front of both files.
-fn changed(
-    file: &[u8],
-    call: impl FnOnce(&[u8], &mut [u8], &mut [u8]) -> zibrunnos::Result<Levelled>,
-) -> Result<Levelled, String> {
-    let frames = frames(file);
-    let (mut left, mut right) = (gains(file, &frames, 0), gains(file, &frames, 1));
-    let mut new = call(file, &mut left, &mut right).map_err(|r| format!("{r} (refusal {})", r.number()))?;
-    put_gains(&mut new.file, &frames, 0, &left);
-    put_gains(&mut new.file, &frames, 1, &right);
-    Ok(new)
+/// What is asked for.
+#[derive(Clone, Copy)]
+pub enum Call {
+    Level(i32, i32, Mode),
+    Undo,
+    List,
+}
+
+/// The file after a level or an undo, and what its owner should know.
+pub fn changed(file: &[u8], call: Call) -> Result<(Vec<u8>, Vec<String>), String> {
+    let refused = |r: Refusal| format!("{r} (refusal {})", r.number());
+    // A frame that reaches into the tag is none: what stands there changes.
+    let (sound, _) = split_tag(file).map_err(refused)?;
+    let (frames, left_out) = walk(sound);
+    if frames.is_empty() {
+        return Err("it has no MP3 frame with sound".to_string());
+    }
+    let (mut left, mut right) = (gains(sound, &frames, 0), gains(sound, &frames, 1));
+    let mut notes = Vec::new();
+    let new = match call {
+        Call::Level(l, mut r, mode) => {
+            if right.is_empty() && l != r {
+                r = l;
+                notes.push(format!("it has one channel, which is moved by {l}"));
+            }
+            if l != r && frames.iter().any(|f| f.joint) {
+                return Err("it is in joint stereo, so both sides have to move by the same number of steps".to_string());
+            }
+            level(file, &mut left, &mut right, l, r, mode)
+        }
+        Call::Undo => undo(file, &mut left, &mut right),
+        Call::List => return Ok((file.to_vec(), notes)),
+    };
+    let mut new = new.map_err(refused)?;
+    put_gains(&mut new.file, &frames, [&left, &right]);
+    if let Call::Level(..) = call {
+        // The undo has to find the same frames. It would not where a gain becomes part of what looks like an ID3v1 block in front of the tag.
+        let (again, _) = split_tag(&new.file).map_err(refused)?;
+        if again.len() != sound.len() || walk(again).0 != frames {
+            return Err(
+                "with these gains its end would look like an ID3v1 block, and an undo would miss it".to_string()
+            );
+        }
+        match new.peaks {
+            0 => {}
+            1 => notes.push("the peak in its tag was not changed: it is still that from before".to_string()),
+            n => notes.push(format!("the {n} peaks in its tag were not changed: they are still those from before")),
+        }
+    }
+    match left_out {
+        0 => {}
+        1 => notes.push("1 byte is part of no whole MP3 frame and was left as it was".to_string()),
+        n => notes.push(format!("{n} bytes are part of no whole MP3 frame and were left as they were")),
+    }
+    Ok((new.file, notes))
 }
 
 /// Replaces a file as a whole: what is new is written beside it, brought to the disk, and renamed.
-fn replace(path: &Path, bytes: &[u8]) -> std::io::Result<()> {
-    let beside = path.with_extension(format!("{}.new", std::process::id()));
-    let written = (|| {
-        let mut out = fs::File::create_new(&beside)?;
+fn replace(path: &Path, old: &Metadata, bytes: &[u8]) -> io::Result<()> {
+    let beside = path.with_file_name(format!(".loop-{}.new", std::process::id()));
+    let mut out = OpenOptions::new().write(true).create_new(true).mode(0o600).open(&beside)?;
+    let mut write = || {
         out.write_all(bytes)?;
-        out.set_permissions(fs::metadata(path)?.permissions())?;
+        let new = out.metadata()?;
+        if (new.uid(), new.gid()) != (old.uid(), old.gid()) {
+            fchown(&out, Some(old.uid()), Some(old.gid()))?;
+        }
+        out.set_permissions(old.permissions())?;
+        out.set_times(FileTimes::new().set_accessed(old.accessed()?).set_modified(old.modified()?))?;
         out.sync_all()?;
         fs::rename(&beside, path)
-    })();
-    written.inspect_err(|_| drop(fs::remove_file(&beside)))
+    };
+    write().inspect_err(|_| drop(fs::remove_file(&beside)))?;
+    // The new name is brought to the disk too. The file is replaced by now, whether or not this works.
+    if let Some(folder) = path.parent() {
+        let _ = File::open(folder).and_then(|f| f.sync_all());
+    }
+    Ok(())
 }
 
-fn fail(message: String) -> ! {
-    eprintln!("loop: {message}");
-    exit(1)
+/// How many bytes are listed, from the end of a file.
+const LISTED: u64 = 16_384;
+
+/// The listing of the tag at the end of a file, which goes on before these bytes or does not.
+fn listed(end: &[u8], goes_on: bool) -> Result<String, String> {
+    if let Ok(Some(footer)) = find_footer(end) {
+        let size = read_u32_le(end, footer + 12).unwrap_or(0) as usize;
+        if goes_on && size > footer + 32 {
+            return Err(format!(
+                "its tag has {size} bytes by its footer; only the last 16,384 bytes of a file are listed"
+            ));
+        }
+    }
+    Ok(list_tag(end))
 }
 
-fn main() {
-    let args: Vec<String> = std::env::args().skip(1).collect();
-    let words: Vec<&str> = args.iter().map(String::as_str).collect();
-    let (name, steps) = match words[..] {
-        ["level", name, left, right] => (name, Some((left, right, "N"))),
-        ["level", name, left, right, mode @ ("N" | "W")] => (name, Some((left, right, mode))),
-        ["undo" | "list", name] => (name, None),
-        _ => {
-            eprintln!("usage: loop level FILE LEFT RIGHT [N|W] | loop undo FILE | loop list FILE");
-            exit(2)
+/// The last bytes of a file, at most so many.
+fn last_bytes(path: &Path, most: u64) -> io::Result<Vec<u8>> {
+    let mut file = File::open(path)?;
+    let length = file.metadata()?.len();
+    file.seek(SeekFrom::Start(length.saturating_sub(most)))?;
+    let mut bytes = Vec::new();
+    file.take(most).read_to_end(&mut bytes)?;
+    Ok(bytes)
+}
+
+/// Does what is asked for: the text to print, and what the file's owner should know.
+pub fn run(call: Call, name: &Path) -> Result<(String, Vec<String>), String> {
+    let path = fs::canonicalize(name).map_err(|e| e.to_string())?;
+    let about = fs::metadata(&path).map_err(|e| e.to_string())?;
+    if !about.is_file() {
+        return Err("it is no regular file".to_string());
+    }
+    if let Call::List = call {
+        let end = last_bytes(&path, LISTED).map_err(|e| e.to_string())?;
+        return Ok((listed(&end, about.len() > LISTED)?, Vec::new()));
+    }
+    // A user who may write everything is kept from it by the mode alone.
+    if about.permissions().readonly() {
+        return Err("it is read-only".to_string());
+    }
+    OpenOptions::new().write(true).open(&path).map_err(|e| format!("it cannot be written: {e}"))?;
+    // One byte more than a file may have is enough to be refused.
+    let file = last_bytes(&path, 16_777_217).map_err(|e| e.to_string())?;
+    let (new, notes) = changed(&file, call).map_err(|why| format!("{why}; the file is as it was"))?;
+    replace(&path, &about, &new).map_err(|e| format!("it cannot be replaced: {e}; the file is as it was"))?;
+    Ok((String::new(), notes))
+}
+
+/// What the words of the command line ask for, and of which file.
+pub fn call_of(words: &[OsString]) -> Result<(Call, &Path), String> {
+    let usage = "usage: loop level FILE LEFT RIGHT [N|W] | loop undo FILE | loop list FILE";
+    let steps = |word: &OsString| {
+        let number = word.to_str().and_then(|w| w.parse().ok());
+        number.ok_or_else(|| format!("{} is not a number of steps", word.display()))
+    };
+    match words {
+        [what, name, left, right, rest @ ..] if what == "level" && rest.len() < 2 => {
+            let mode = match rest.first().map(|m| m.to_str()) {
+                None | Some(Some("N")) => Mode::Saturating,
+                Some(Some("W")) => Mode::Wrapping,
+                _ => return Err(usage.to_string()),
+            };
+            Ok((Call::Level(steps(left)?, steps(right)?, mode), Path::new(name)))
+        }
+        [what, name] if what == "undo" => Ok((Call::Undo, Path::new(name))),
+        [what, name] if what == "list" => Ok((Call::List, Path::new(name))),
+        _ => Err(usage.to_string()),
+    }
+}
+
+fn main() -> ExitCode {
+    let words: Vec<OsString> = std::env::args_os().skip(1).collect();
+    let say = |text: String| drop(writeln!(io::stderr(), "{text}"));
+    let (call, name) = match call_of(&words) {
+        Ok(asked) => asked,
+        Err(why) => {
+            say(why);
+            return ExitCode::from(2);
         }
     };
-    let path = Path::new(name);
-    let file = fs::read(path).unwrap_or_else(|e| fail(format!("{name}: {e}")));
-    if words[0] == "list" {
-        print!("{}", list_tag(&file[file.len().saturating_sub(16_384)..]));
-        return;
-    }
-    let new = match steps {
-        Some((left, right, mode)) => {
-            let number = |s: &str| s.parse().unwrap_or_else(|_| fail(format!("{s} is not a number of steps")));
-            let mode = if mode == "W" { Mode::Wrapping } else { Mode::Saturating };
-            changed(&file, |file, l, r| level(file, l, r, number(left), number(right), mode))
+    match run(call, name) {
+        Ok((text, notes)) => {
+            notes.iter().for_each(|note| say(format!("loop: {}: {note}", name.display())));
+            // Whoever reads the listing may stop early.
+            drop(io::stdout().write_all(text.as_bytes()));
+            ExitCode::SUCCESS
         }
-        None => changed(&file, undo),
-    };
-    let new = new.unwrap_or_else(|e| fail(format!("{name}: {e}; the file is as it was")));
-    replace(path, &new.file).unwrap_or_else(|e| fail(format!("{name}: {e}; the file is as it was")));
-    if new.peaks > 0 {
-        eprintln!("loop: {name}: its {} stored peaks are those from before", new.peaks);
-    }
-}
-
-#[cfg(test)]
-mod tests {
-    use super::*;
-
-    /// Frames of sound with gains of 100 and more: MPEG 1 at 44.1 kHz or MPEG 2 at 22.05 kHz, with a check sum or without.
-    fn sound(mpeg1: bool, mono: bool, crc: bool) -> Vec<u8> {
-        let mut file = Vec::new();
-        for i in 0..5 {
-            let start = file.len();
-            file.extend([0xFF, if mpeg1 { 0xFA } else { 0xF2 } | !crc as u8, 0x90, if mono { 0xC0 } else { 0x40 }]);
-            file.resize(start + if mpeg1 { 144 * 128_000 / 44_100 } else { 72 * 80_000 / 22_050 }, 0x55);
-            let f = Frame::at(&file, start).unwrap();
-            for channel in 0..f.channels {
-                for bit in f.gains(channel) {
-                    put(&mut file[f.side..], bit, 100 + 10 * i + channel as u8);
-                }
-            }
-            f.sum(&mut file);
+        Err(why) => {
+            say(format!("loop: {}: {why}", name.display()));
+            ExitCode::FAILURE
         }
-        file
-    }
-
-    #[test]
-    fn a_loop_comes_back() {
-        for case in 0..8 {
-            let file = sound(case & 1 == 0, case & 2 == 0, case & 4 == 0);
-            let all = frames(&file);
-            assert_eq!(all.len(), 5);
-            assert_eq!(gains(&file, &all, 0)[0], 100);
-            let new = changed(&file, |f, l, r| level(f, l, r, 7, -3, Mode::Saturating)).unwrap().file;
-            assert_eq!(gains(&new, &frames(&new), 0)[0], 107);
-            assert!(case & 2 == 0 || gains(&new, &frames(&new), 1)[0] == 98);
-            assert_eq!(changed(&new, undo).unwrap().file, file);
-        }
-    }
-
-    #[test]
-    fn a_refusal_says_why() {
-        assert!(changed(b"no sound", undo).is_err_and(|e| e == "there are no left gains (refusal 7)"));
-        let file = sound(true, false, false);
-        assert!(changed(&file, undo).is_err_and(|e| e == "no undo is stored (refusal 10)"));
-    }
-
-    #[test]
-    fn a_file_is_replaced_as_a_whole() {
-        let path = std::env::temp_dir().join(format!("loop-{}.mp3", std::process::id()));
-        fs::write(&path, b"old").unwrap();
-        replace(&path, b"new").unwrap();
-        assert_eq!(fs::read(&path).unwrap(), b"new");
-        fs::remove_file(&path).unwrap();
-        assert!(replace(&path, b"new").is_err());
     }
 }

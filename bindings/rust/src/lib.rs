@@ -1,10 +1,13 @@
-//! APEv2 tags of MP3 loops, read and edited, and their gains levelled so that an undo gives back every byte: safe calls over the proved
-//! library.
+//! Reads and edits the APEv2 tags of MP3 loops, levels their gains, and undoes it: safe calls over the proved library.
 //!
-//! A call that fails gives the [`Refusal`] and has changed nothing. The library never reads or writes outside the slices it is lent, and here
-//! no two of them can overlap where one is written, so every function is safe. Results are new vectors; where the library wants an output, it is
-//! lent one that is long enough, so [`Refusal::NoRoom`] means only that the result would be longer than a file may be, or than the room that
-//! [`lossy_size`] is told.
+//! [`level`] moves the gains that it is lent and writes mp3gain's undo item into the tag; [`undo`] gives back the file and the gains.
+//! `docs/LIBRARY.md` says for each call when it refuses and what it costs, `docs/TERMS.md` what the words mean, and `examples/loop.rs` how
+//! the gains are read from an MP3 and written back.
+//!
+//! A call that fails gives a [`Refusal`] and has changed nothing. The library never reads or writes outside the slices that it is lent, and
+//! none of those that it writes can overlap another here, so every function is safe. It keeps nothing between calls, so any thread may call
+//! at any time. Results are new vectors. The bindings lend the library outputs that are long enough, so [`Refusal::NoRoom`] means only that
+//! the result would have more than [`FILE_LIMIT`] bytes, or more than the room that [`lossy_size`] is told.
 //!
 //! ```
 //! use zibrunnos::{level, undo, Mode};
@@ -22,40 +25,50 @@ mod raw;
 
 use std::fmt;
 
-/// Why a call was refused, with document 01's number.
+/// The most bytes that a file may have, and that a call writes.
+pub const FILE_LIMIT: usize = 16_777_216;
+/// The most items of a tag that is edited.
+pub const ITEM_LIMIT: usize = 256;
+/// The most bytes that the items of a tag that is edited may have.
+pub const AREA_LIMIT: usize = 32_768;
+/// The most bytes of a file that [`list_tag`] lists.
+pub const LIST_LIMIT: usize = 16_384;
+
+/// Why a call was refused; the numbers are those that the library answers in C.
 #[derive(Clone, Copy, Debug, PartialEq, Eq)]
 #[repr(u32)]
 pub enum Refusal {
-    /// A file of more than 16,777,216 bytes.
+    /// The file has more than [`FILE_LIMIT`] bytes.
     FileTooLong = 1,
-    /// A step outside -255..255.
+    /// A step lies outside -255..255.
     StepOutOfRange = 2,
-    /// A key that is not 2 to 255 bytes of hex 20..7E, or is ID3, TAG, OggS or MP+ in any letter case.
+    /// The key is not 2 to 255 bytes of hex 20..7E, or is ID3, TAG, OggS or MP+ in any letter case.
     BadKey = 3,
-    /// A value that is not UTF-8.
+    /// The value is not UTF-8.
     NotUtf8 = 4,
-    /// The result is longer than a file may be, or than the room that [`lossy_size`] is told.
+    /// The result would have more than [`FILE_LIMIT`] bytes, or more than the room that [`lossy_size`] is told.
     NoRoom = 5,
-    /// The new tag has more than 256 items or 32,768 item bytes.
+    /// The new tag would have more than [`ITEM_LIMIT`] items, or more than [`AREA_LIMIT`] bytes of items.
     TagTooLarge = 6,
     /// The list of left gains is empty.
     NoLeftGains = 7,
-    /// The file's tag does not pass the editing gate.
+    /// The file has a tag that does not pass the editing gate: it is damaged, too large, or has an item with flags, such as a picture. See
+    /// [`gate`].
     NotEditable = 8,
-    /// The stored undo has the other flag.
+    /// The file was levelled before in the other [`Mode`].
     FlagDiffers = 9,
-    /// No undo item is stored.
+    /// The file has no undo item.
     NoUndo = 10,
     /// An undo number would leave -32,768..32,767.
     UndoOutOfRange = 11,
-    /// The area is not exactly as many items as it is said to have.
+    /// An item area is not exactly as many items as it is said to have. An [`Items`] always is, so no call here gives this.
     MalformedArea = 12,
-    /// The slip has another form.
+    /// The level slip has another form.
     MalformedSlip = 13,
 }
 
 impl Refusal {
-    /// The number in document 01's table of replies.
+    /// The number that the library answers in C.
     pub fn number(self) -> u32 {
         self as u32
     }
@@ -84,25 +97,31 @@ impl Refusal {
 impl fmt::Display for Refusal {
     fn fmt(&self, f: &mut fmt::Formatter) -> fmt::Result {
         f.write_str(match self {
-            Refusal::FileTooLong => "the file is longer than 16,777,216 bytes",
+            Refusal::FileTooLong => "the file has more than 16,777,216 bytes",
             Refusal::StepOutOfRange => "a step lies outside -255..255",
-            Refusal::BadKey => "the key is not one that a tag may have",
+            Refusal::BadKey => "no tag may have this key",
             Refusal::NotUtf8 => "the value is not UTF-8",
-            Refusal::NoRoom => "the result would be longer than a file may be, or than the room for it",
-            Refusal::TagTooLarge => "the tag would have more than 256 items or 32,768 item bytes",
+            Refusal::NoRoom => "the result would have more than 16,777,216 bytes, or more than the room for it",
+            Refusal::TagTooLarge => {
+                return write!(
+                    f,
+                    "the tag would have more than {ITEM_LIMIT} items, or more than {AREA_LIMIT} bytes of items"
+                )
+            }
             Refusal::NoLeftGains => "there are no left gains",
-            Refusal::NotEditable => "the file's tag is not fit for editing",
-            Refusal::FlagDiffers => "the stored undo has the other flag",
+            Refusal::NotEditable => "the file's tag is damaged, too large, or has an item that is not plain text",
+            Refusal::FlagDiffers => "the file was levelled with the other flag before",
             Refusal::NoUndo => "no undo is stored",
             Refusal::UndoOutOfRange => "an undo number would leave -32,768..32,767",
-            Refusal::MalformedArea => "the items are malformed",
-            Refusal::MalformedSlip => "the slip is malformed",
+            Refusal::MalformedArea => "the bytes are not the items that they are said to be",
+            Refusal::MalformedSlip => "the level slip has another form",
         })
     }
 }
 
 impl std::error::Error for Refusal {}
 
+/// What a call gives, or why it was refused.
 pub type Result<T> = std::result::Result<T, Refusal>;
 
 fn done<T>(reply: u32, value: T) -> Result<T> {
@@ -112,7 +131,7 @@ fn done<T>(reply: u32, value: T) -> Result<T> {
     }
 }
 
-/// An output of so many bytes, filled by a call that answers its reply and how many it wrote.
+/// Lends a call an output of so many bytes, and gives what it wrote there.
 fn filled(room: usize, call: impl FnOnce(*mut u8, usize, &mut usize) -> u32) -> Result<Vec<u8>> {
     let (mut out, mut written) = (vec![0; room], 0);
     let reply = call(out.as_mut_ptr(), room, &mut written);
@@ -120,10 +139,12 @@ fn filled(room: usize, call: impl FnOnce(*mut u8, usize, &mut usize) -> u32) -> 
     done(reply, out)
 }
 
-/// What happens to a gain that would leave 0..255: it is held there (N), or wraps modulo 256 (W).
+/// What happens to a gain that would leave 0..255.
 #[derive(Clone, Copy, Debug, PartialEq, Eq)]
 pub enum Mode {
+    /// It is held at 0 or 255, and a gain of 0 stays 0: flag N.
     Saturating,
+    /// It is taken modulo 256: flag W.
     Wrapping,
 }
 
@@ -141,7 +162,7 @@ impl Mode {
     }
 }
 
-/// The undo numbers of either side and their flag, or the steps of a level slip.
+/// A number of steps for either side, and the mode: what an undo item holds, or a level slip asks for.
 #[derive(Clone, Copy, Debug, PartialEq, Eq)]
 pub struct Steps {
     pub left: i32,
@@ -149,7 +170,7 @@ pub struct Steps {
     pub mode: Mode,
 }
 
-/// The items of a tag, in order: what the library calls an item area.
+/// The items of a tag, in order: an item area that is always well-formed. It may have more items than a tag that is edited.
 ///
 /// ```
 /// use zibrunnos::Items;
@@ -168,7 +189,7 @@ pub struct Items {
     count: usize,
 }
 
-/// The texts of the five ReplayGain items; an empty one is not set.
+/// The texts of the five ReplayGain items. An empty one is not set.
 #[derive(Clone, Copy, Debug, Default)]
 pub struct ReplayGain<'a> {
     pub track_gain: &'a [u8],
@@ -179,19 +200,23 @@ pub struct ReplayGain<'a> {
 }
 
 impl Items {
+    /// No items.
     pub fn new() -> Items {
         Items::default()
     }
 
+    /// The number of items.
     pub fn len(&self) -> usize {
         self.count
     }
 
+    /// Whether there are no items.
     pub fn is_empty(&self) -> bool {
         self.count == 0
     }
 
-    /// The area itself: for each item its value's length and its flags (four bytes each), its key, a zero byte and its value.
+    /// The bytes of the area: for each item the length of its value and its flags, four bytes each, then its key, a zero byte and its
+    /// value.
     pub fn as_bytes(&self) -> &[u8] {
         &self.bytes
     }
@@ -201,7 +226,7 @@ impl Items {
         Iter { area: &self.bytes, at: 0 }
     }
 
-    /// An edit that makes at most `more` bytes more than there are.
+    /// Makes an edit that adds at most `more` bytes.
     fn edit(
         &mut self,
         more: usize,
@@ -214,7 +239,7 @@ impl Items {
         Ok(())
     }
 
-    /// The value of the first item with this key, in any letter case.
+    /// The value of the first item with this key. The letter case of the key does not matter, here and everywhere.
     pub fn get(&self, key: &[u8]) -> Result<Option<&[u8]>> {
         let (mut there, mut start, mut size) = (0, 0, 0);
         let a = &self.bytes;
@@ -225,7 +250,8 @@ impl Items {
         done(reply, (there == 1).then(|| &self.bytes[start..start + size]))
     }
 
-    /// Sets the first item with this key, which keeps its spelling and place, or appends one with the key in upper case.
+    /// Sets the value of the first item with this key, which keeps its spelling and its place, or adds an item with the key in upper case
+    /// at the end.
     pub fn set(&mut self, key: &[u8], value: &[u8]) -> Result<()> {
         // SAFETY: each pointer is that of a slice with the length beside it; the output is a new one.
         self.edit(9 + key.len() + value.len(), |a, l, n, out, room, items, written| unsafe {
@@ -251,7 +277,7 @@ impl Items {
         done(reply, (there == 1).then_some(steps))
     }
 
-    /// Sets the undo item.
+    /// Sets the undo item to these numbers and this mode.
     pub fn set_undo_gain(&mut self, steps: Steps) -> Result<()> {
         // SAFETY: as in `set`.
         self.edit(64, |a, l, n, out, room, items, written| unsafe {
@@ -259,7 +285,7 @@ impl Items {
         })
     }
 
-    /// Sets the range of all gains.
+    /// Sets `MP3GAIN_MINMAX` to the least and the greatest gain.
     pub fn set_minmax(&mut self, least: u8, greatest: u8) -> Result<()> {
         // SAFETY: as in `set`.
         self.edit(64, |a, l, n, out, room, items, written| unsafe {
@@ -295,7 +321,7 @@ impl Items {
         })
     }
 
-    /// Removes the ReplayGain items.
+    /// Removes the five ReplayGain items.
     pub fn remove_replaygain(&mut self) -> Result<()> {
         // SAFETY: as in `set`.
         self.edit(0, |a, l, n, out, room, items, written| unsafe {
@@ -303,7 +329,7 @@ impl Items {
         })
     }
 
-    /// Removes what has no meaning any more after an undo.
+    /// Removes what says nothing true after an undo: the five ReplayGain items and `MP3GAIN_ALBUM_MINMAX`.
     pub fn drop_undone(&mut self) -> Result<()> {
         // SAFETY: as in `set`.
         self.edit(0, |a, l, n, out, room, items, written| unsafe {
@@ -319,7 +345,8 @@ impl Items {
         })
     }
 
-    /// Moves the stored ranges and gain texts by so many steps.
+    /// Moves the stored ranges and gain texts by so many steps. A gain text of another form than `-3.480000 dB` stays as it is, and so do
+    /// peaks; where gains wrap, a range that would leave 0..255 is removed.
     pub fn shift_stored_gain(&mut self, steps: i32, mode: Mode) -> Result<()> {
         // SAFETY: as in `set`. A value that moves has at most 32 bytes.
         self.edit(32 * self.count, |a, l, n, out, room, items, written| unsafe {
@@ -327,7 +354,7 @@ impl Items {
         })
     }
 
-    /// The tag of these items; nothing for no items.
+    /// The bytes of a tag with these items: header, items and footer. No items make no tag, and no bytes.
     pub fn serialize(&self) -> Result<Vec<u8>> {
         // SAFETY: as in `set`.
         filled(self.bytes.len() + 64, |out, room, written| unsafe {
@@ -336,7 +363,7 @@ impl Items {
     }
 }
 
-/// The items of an [`Items`], each a key and a value.
+/// Goes through an [`Items`]; each item is a key and a value.
 pub struct Iter<'a> {
     area: &'a [u8],
     at: usize,
@@ -377,182 +404,10 @@ impl<'a> IntoIterator for &'a Items {
     }
 }
 
-/// The items of a tag behind an index, for many looks at one tag: neither [`Tag::get`] nor [`Tag::set`] walks over the items.
+/// Reads the items of a file's tag; `None` where the file has no tag.
 ///
-/// The index is made from the bytes by [`Tag::open`] and changed together with them by [`Tag::set`]. Nothing else can break it, since the fields
-/// are private and each call leaves them whole, a refused one too: so [`Tag::get`] gives what [`Items::get`] gives of the same items.
-///
-/// ```
-/// use zibrunnos::{Items, Refusal, Tag};
-///
-/// let mut items = Items::new();
-/// items.set(b"Title", b"Floor")?;
-/// let mut tag = Tag::open(items.as_bytes(), items.len())?;
-/// assert_eq!(tag.get(b"title")?, Some(&b"Floor"[..]));
-/// tag.set(b"title", b"Ceiling")?;
-/// tag.set(b"Artist", b"Nobody")?;
-/// assert_eq!(tag.get(b"Title")?, Some(&b"Ceiling"[..]));
-/// assert_eq!(tag.get(b"Album")?, None);
-/// assert_eq!(tag.get(b"A"), Err(Refusal::BadKey));
-/// items.set(b"title", b"Ceiling")?;
-/// items.set(b"Artist", b"Nobody")?;
-/// assert_eq!(tag.items()?, items);
-/// # Ok::<(), zibrunnos::Refusal>(())
-/// ```
-#[derive(Clone, Debug)]
-pub struct Tag {
-    /// The items; what an item was before it was set stands among them until they are gathered.
-    bytes: Vec<u8>,
-    /// The length of each item's key, or 0 for a key that nobody can ask for.
-    marks: Vec<u8>,
-    /// Where each item begins.
-    places: Vec<usize>,
-    /// How many bytes there may be before the items are gathered.
-    room: usize,
-}
-
-impl Tag {
-    /// The items of an area that has so many, as [`Items::as_bytes`] and [`Items::len`] give them.
-    ///
-    /// ```
-    /// use zibrunnos::{Refusal, Tag};
-    ///
-    /// let area = b"\x01\0\0\0\0\0\0\0AB\0c";
-    /// assert_eq!(Tag::open(area, 1)?.get(b"ab")?, Some(&b"c"[..]));
-    /// assert_eq!(Tag::open(area, 2).err(), Some(Refusal::MalformedArea));
-    /// assert!(Tag::open(b"", 0)?.is_empty());
-    /// # Ok::<(), zibrunnos::Refusal>(())
-    /// ```
-    pub fn open(area: &[u8], count: usize) -> Result<Tag> {
-        // An item has nine bytes or more, so a larger count is refused for itself, whatever the room.
-        let n = count.min(area.len() / 9);
-        let (mut marks, mut places, mut entries, mut used) = (vec![0; n], vec![0; n], 0, 0);
-        // SAFETY: each pointer is that of a slice with the length beside it; both outputs are new ones.
-        let reply = unsafe {
-            raw::zib_index_items(
-                area.as_ptr(),
-                area.len(),
-                count,
-                marks.as_mut_ptr(),
-                n,
-                places.as_mut_ptr(),
-                n,
-                &mut entries,
-                &mut used,
-            )
-        };
-        // Twice what the items take and a little more, so that few sets gather them; but no more than a file may have.
-        let room = (2 * area.len() + 4096).min(16_777_216);
-        done(reply, ())?;
-        Ok(Tag { bytes: area.to_vec(), marks, places, room })
-    }
-
-    pub fn len(&self) -> usize {
-        self.places.len()
-    }
-
-    pub fn is_empty(&self) -> bool {
-        self.places.is_empty()
-    }
-
-    /// The value of the first item with this key, in any letter case.
-    pub fn get(&self, key: &[u8]) -> Result<Option<&[u8]>> {
-        let (mut there, mut start, mut size) = (0, 0, 0);
-        // SAFETY: each pointer is that of a slice with the length beside it.
-        let reply = unsafe {
-            raw::zib_get_indexed(
-                self.bytes.as_ptr(),
-                self.bytes.len(),
-                self.marks.as_ptr(),
-                self.marks.len(),
-                self.places.as_ptr(),
-                self.places.len(),
-                key.as_ptr(),
-                key.len(),
-                &mut there,
-                &mut start,
-                &mut size,
-            )
-        };
-        done(reply, (there == 1).then(|| &self.bytes[start..start + size]))
-    }
-
-    /// Sets the first item with this key, which keeps its spelling and place, or appends one with the key in upper case.
-    /// [`Refusal::NoRoom`] means that the items and the new one together would be longer than a file may be.
-    ///
-    /// ```
-    /// use zibrunnos::{Refusal, Tag};
-    ///
-    /// let mut tag = Tag::open(b"", 0)?;
-    /// tag.set(b"Title", b"Floor")?;
-    /// assert_eq!(tag.items()?.iter().collect::<Vec<_>>(), [(&b"TITLE"[..], &b"Floor"[..])]);
-    /// assert_eq!(tag.set(b"Title", b"\xff"), Err(Refusal::NotUtf8));
-    /// assert_eq!(tag.get(b"Title")?, Some(&b"Floor"[..]));
-    /// # Ok::<(), zibrunnos::Refusal>(())
-    /// ```
-    pub fn set(&mut self, key: &[u8], value: &[u8]) -> Result<()> {
-        let more = 9 + key.len() + value.len();
-        if self.bytes.len() + more > self.room {
-            self.gather();
-        }
-        let (mut entries, mut used) = (self.places.len(), self.bytes.len());
-        // Room for the item and for one more entry.
-        self.bytes.resize(used + more, 0);
-        self.marks.push(0);
-        self.places.push(0);
-        // SAFETY: each pointer is that of a slice with the length beside it; those that are written are three vectors, borrowed alone.
-        let reply = unsafe {
-            raw::zib_set_indexed(
-                self.bytes.as_mut_ptr(),
-                self.bytes.len(),
-                self.marks.as_mut_ptr(),
-                self.marks.len(),
-                self.places.as_mut_ptr(),
-                self.places.len(),
-                key.as_ptr(),
-                key.len(),
-                value.as_ptr(),
-                value.len(),
-                &mut entries,
-                &mut used,
-            )
-        };
-        // The room that was not taken goes: all of it, where the call was refused.
-        self.bytes.truncate(used);
-        self.marks.truncate(entries);
-        self.places.truncate(entries);
-        done(reply, ())
-    }
-
-    /// The items as they stand now, in order.
-    pub fn items(&self) -> Result<Items> {
-        let mut count = 0;
-        // The items are parts of the bytes that do not overlap, so they have room in as many bytes.
-        // SAFETY: as in `get`; the output is a new one.
-        let bytes = filled(self.bytes.len(), |out, room, written| unsafe {
-            raw::zib_write_indexed(
-                self.bytes.as_ptr(),
-                self.bytes.len(),
-                self.places.as_ptr(),
-                self.places.len(),
-                out,
-                room,
-                &mut count,
-                written,
-            )
-        })?;
-        Ok(Items { bytes, count })
-    }
-
-    /// Lets the bytes be those of the items alone. Items that are longer than a file may be stay as they are, and what is set there is refused.
-    fn gather(&mut self) {
-        if let Ok(tag) = self.items().and_then(|items| Tag::open(&items.bytes, items.count)) {
-            *self = tag;
-        }
-    }
-}
-
-/// The items of a file's tag, or none where it has no tag. Keys and values that are not UTF-8 are converted as by `from_utf8_lossy`.
+/// The flags of the items are dropped, and each part of a key or value that is not UTF-8 becomes U+FFFD. So a picture that is read here and
+/// written back by [`replace_tag`] is lost; [`set_item`] and [`remove_item`] refuse a file with a picture.
 pub fn read_tag(file: &[u8]) -> Result<Option<Items>> {
     let (mut there, mut count) = (0, 0);
     // SAFETY: each pointer is that of a slice with the length beside it; the output is a new one.
@@ -562,7 +417,7 @@ pub fn read_tag(file: &[u8]) -> Result<Option<Items>> {
     Ok((there == 1).then_some(Items { bytes, count }))
 }
 
-/// The file with these items for its tag.
+/// Gives the file with these items in place of its tag, whatever that was.
 pub fn replace_tag(file: &[u8], items: &Items) -> Result<Vec<u8>> {
     let a = &items.bytes;
     // SAFETY: as in `read_tag`.
@@ -571,7 +426,8 @@ pub fn replace_tag(file: &[u8], items: &Items) -> Result<Vec<u8>> {
     })
 }
 
-/// What precedes a file's tag and what follows it; without a tag, what would. An ID3v1 block at the end follows it.
+/// Splits a file into the part before its tag and the part after it. Without a tag, these are the parts before and after the place where
+/// one would go, which is before an ID3v1 block.
 ///
 /// ```
 /// let file = zibrunnos::set_item(b"audio", b"Title", b"Floor")?;
@@ -585,7 +441,10 @@ pub fn split_tag(file: &[u8]) -> Result<(&[u8], &[u8])> {
     done(reply, (&file[..front], &file[from..to]))
 }
 
-/// The items of a file that is fit for editing: none where it has no tag.
+/// Gives the items of a file that may be edited: no items where it has no tag. [`Refusal::NotEditable`] says that it may not.
+///
+/// The tag must be of version 2000, start within the file, and hold exactly the items that its footer counts, all of them text in UTF-8
+/// without flags, and no more of them than [`ITEM_LIMIT`] and [`AREA_LIMIT`].
 ///
 /// ```
 /// use zibrunnos::{gate, set_item, Refusal};
@@ -603,7 +462,7 @@ pub fn gate(file: &[u8]) -> Result<Items> {
     done(reply, Items { bytes: file[start..end].to_vec(), count })
 }
 
-/// The file with this item set in its tag.
+/// Sets an item in the tag of a file, as [`Items::set`] does, and gives the new file.
 ///
 /// ```
 /// let file = zibrunnos::set_item(b"audio", b"Title", b"Floor")?;
@@ -614,7 +473,7 @@ pub fn gate(file: &[u8]) -> Result<Items> {
 /// ```
 pub fn set_item(file: &[u8], key: &[u8], value: &[u8]) -> Result<Vec<u8>> {
     // SAFETY: as in `read_tag`.
-    filled(file.len() + key.len() + value.len() + 128, |out, room, written| unsafe {
+    filled(file.len() + key.len() + value.len() + 73, |out, room, written| unsafe {
         raw::zib_set_ape_item(
             file.as_ptr(),
             file.len(),
@@ -629,22 +488,38 @@ pub fn set_item(file: &[u8], key: &[u8], value: &[u8]) -> Result<Vec<u8>> {
     })
 }
 
-/// The file without the items with this key.
+/// Removes every item with this key from the tag of a file, and gives the new file.
 pub fn remove_item(file: &[u8], key: &[u8]) -> Result<Vec<u8>> {
     // SAFETY: as in `read_tag`.
-    filled(file.len() + 128, |out, room, written| unsafe {
+    filled(file.len() + 32, |out, room, written| unsafe {
         raw::zib_remove_ape_item(file.as_ptr(), file.len(), key.as_ptr(), key.len(), out, room, written)
     })
 }
 
-/// A file that was levelled or brought back, and how many peak items its tag holds.
+/// What [`level`] and [`undo`] give.
 #[derive(Clone, Debug, PartialEq, Eq)]
 pub struct Levelled {
+    /// The new file. Its sound is that of the old one: the caller writes the new gains into it.
     pub file: Vec<u8>,
+    /// How many peak items the new tag holds. They stay as they were, so they are those of the old loudness; 0 after an undo.
     pub peaks: usize,
 }
 
-/// Moves every gain by its side's steps, and gives the file with the items that say so.
+/// Moves every gain by its side's steps, and gives the file with the undo item and the range of all gains in its tag.
+///
+/// A gain is the 8-bit `global_gain` of a granule and channel of an MP3 frame. `right` is empty for a mono file. Stored ReplayGain gains
+/// move with the steps where these are equal and the text has the form `-3.480000 dB`; with unequal steps all ReplayGain items go.
+///
+/// ```
+/// use zibrunnos::{level, list_tag, Mode, Refusal};
+///
+/// let (mut left, mut right) = ([120, 0], [254, 131]);
+/// let once = level(b"audio", &mut left, &mut right, 2, 2, Mode::Saturating)?;
+/// assert_eq!((left, right), ([122, 0], [255, 133]));
+/// assert_eq!(list_tag(&once.file), "items=2\nMP3GAIN_UNDO=-002,-002,N\nMP3GAIN_MINMAX=000,255\n");
+/// assert_eq!(level(&once.file, &mut left, &mut right, 1, 1, Mode::Wrapping), Err(Refusal::FlagDiffers));
+/// # Ok::<(), zibrunnos::Refusal>(())
+/// ```
 pub fn level(
     file: &[u8],
     left: &mut [u8],
@@ -654,8 +529,8 @@ pub fn level(
     mode: Mode,
 ) -> Result<Levelled> {
     let mut peaks = 0;
-    // A tag of at most 256 items, each of which may grow by 32 bytes, and two items more.
-    let room = file.len() + 128 + 256 * 32 + 128;
+    // Each item may grow by 32 bytes, the two that are set take 76 at most, and header and footer 64.
+    let room = file.len() + 32 * ITEM_LIMIT + 140;
     // SAFETY: as in `read_tag`; both lists of gains are borrowed alone.
     let file = filled(room, |out, room, written| unsafe {
         raw::zib_level(
@@ -677,11 +552,13 @@ pub fn level(
     Ok(Levelled { file, peaks })
 }
 
-/// Moves every gain back by the stored undo, and gives the file without mp3gain's items.
+/// Moves every gain back by the stored undo item, and gives the file without mp3gain's eight keys. ReplayGain items that were there before
+/// the first level do not come back.
 pub fn undo(file: &[u8], left: &mut [u8], right: &mut [u8]) -> Result<Levelled> {
     let mut peaks = 0;
+    // At most a header is added, and an undo item of 21 bytes or more goes.
     // SAFETY: as in `level`.
-    let file = filled(file.len() + 128, |out, room, written| unsafe {
+    let file = filled(file.len() + 11, |out, room, written| unsafe {
         raw::zib_undo(
             file.as_ptr(),
             file.len(),
@@ -698,7 +575,17 @@ pub fn undo(file: &[u8], left: &mut [u8], right: &mut [u8]) -> Result<Levelled> 
     Ok(Levelled { file, peaks })
 }
 
-/// Lists the tag of a file of at most 16,384 bytes as lines: `refused=1`, `items=none`, or the number of items and `key=value` for each.
+/// Lists the tag of a file as lines: `items=none` for no tag, or `items=` and the number of items, and `key=value` for each.
+///
+/// A file of more than [`LIST_LIMIT`] bytes is listed as `refused=1`; pass its last [`LIST_LIMIT`] bytes.
+///
+/// ```
+/// use zibrunnos::{list_tag, set_item, LIST_LIMIT};
+///
+/// let file = set_item(&[0; 20_000], b"Title", "Fläche".as_bytes())?;
+/// assert_eq!(list_tag(&file[file.len() - LIST_LIMIT..]), "items=1\nTITLE=Fl\\c3\\a4che\n");
+/// # Ok::<(), zibrunnos::Refusal>(())
+/// ```
 pub fn list_tag(file: &[u8]) -> String {
     let mut text: Box<[u8; 147_473]> = vec![0; 147_473].into_boxed_slice().try_into().unwrap();
     // SAFETY: the text has the bytes that the call wants.
@@ -706,13 +593,13 @@ pub fn list_tag(file: &[u8]) -> String {
     String::from_utf8_lossy(&text[..n]).into_owned()
 }
 
-/// A gain after so many steps.
+/// Gives a gain after so many steps.
 pub fn adjust_gain(gain: u8, steps: i32, mode: Mode) -> u8 {
     // SAFETY: numbers only.
     unsafe { raw::zib_adjust_gain_value(gain, steps, mode.wraps()) }
 }
 
-/// The number of four bytes, the least first, that stands at a place, if four bytes stand there.
+/// Reads the number of the four bytes at a place, the lowest first; `None` where there are fewer.
 pub fn read_u32_le(bytes: &[u8], at: usize) -> Option<u32> {
     let mut value = 0;
     // SAFETY: a slice by its pointer and length.
@@ -720,7 +607,7 @@ pub fn read_u32_le(bytes: &[u8], at: usize) -> Option<u32> {
     there.then_some(value)
 }
 
-/// Where the footer of a file's tag stands.
+/// Finds the place of the footer of a file's tag.
 pub fn find_footer(file: &[u8]) -> Result<Option<usize>> {
     let (mut there, mut footer) = (0, 0);
     // SAFETY: a slice by its pointer and length.
@@ -728,7 +615,7 @@ pub fn find_footer(file: &[u8]) -> Result<Option<usize>> {
     done(reply, (there == 1).then_some(footer))
 }
 
-/// Where the tag with its footer at this place starts.
+/// Finds where the tag starts whose footer is at this place; `None` where that lies before the file.
 pub fn tag_start(file: &[u8], footer: usize) -> Result<Option<usize>> {
     let (mut there, mut start) = (0, 0);
     // SAFETY: a slice by its pointer and length.
@@ -736,7 +623,7 @@ pub fn tag_start(file: &[u8], footer: usize) -> Result<Option<usize>> {
     done(reply, (there == 1).then_some(start))
 }
 
-/// Whether a file ends in a 128-byte ID3v1 block.
+/// Whether a file ends in an ID3v1 block: 128 bytes that begin with `TAG`.
 pub fn ends_with_id3v1(file: &[u8]) -> bool {
     // SAFETY: a slice by its pointer and length.
     unsafe { raw::zib_ends_with_id3v1(file.as_ptr(), file.len()) }
@@ -748,7 +635,7 @@ pub fn is_utf8(text: &[u8]) -> bool {
     unsafe { raw::zib_is_utf8(text.as_ptr(), text.len()) }
 }
 
-/// How many bytes a text has with U+FFFD in place of each ill-formed part, where that is at most `room`.
+/// The length of what [`lossy`] gives for this text, where that is at most `room`.
 ///
 /// ```
 /// use zibrunnos::{lossy_size, Refusal};
@@ -763,7 +650,7 @@ pub fn lossy_size(text: &[u8], room: usize) -> Result<usize> {
     done(reply, size)
 }
 
-/// A text with U+FFFD in place of each ill-formed part.
+/// Gives a text with U+FFFD in place of each part that is not UTF-8, cut as `from_utf8_lossy` cuts it.
 pub fn lossy(text: &[u8]) -> Result<Vec<u8>> {
     // SAFETY: as in `read_tag`.
     filled(3 * text.len(), |out, room, written| unsafe {
@@ -771,20 +658,20 @@ pub fn lossy(text: &[u8]) -> Result<Vec<u8>> {
     })
 }
 
-/// Whether a tag may have this key.
+/// Whether a call takes this key, or gives [`Refusal::BadKey`] for it.
 pub fn is_key(key: &[u8]) -> bool {
     // SAFETY: a slice by its pointer and length.
     unsafe { raw::zib_is_key(key.as_ptr(), key.len()) }
 }
 
-/// Which of mp3gain's eight keys it is, by its place, in any letter case.
+/// Which of mp3gain's eight keys this is, in any letter case: 0 for `MP3GAIN_UNDO` to 7 for `REPLAYGAIN_ALGORITHM`.
 pub fn which_key(key: &[u8]) -> Option<usize> {
     // SAFETY: a slice by its pointer and length.
     let place = unsafe { raw::zib_which_key(key.as_ptr(), key.len()) };
     (place < 8).then_some(place)
 }
 
-/// The numbers and the flag of an undo text.
+/// Reads an undo text. An empty one is 0, 0 and [`Mode::Saturating`]; a right number that cannot be read is the left one.
 ///
 /// ```
 /// use zibrunnos::{format_undo, parse_undo, Mode, Steps};
@@ -800,7 +687,7 @@ pub fn parse_undo(text: &[u8]) -> Steps {
     Steps { left, right, mode: Mode::of(wrap) }
 }
 
-/// The undo text of two numbers and a flag.
+/// Writes an undo text.
 pub fn format_undo(steps: Steps) -> String {
     // SAFETY: as in `read_tag`; no such text has more than 32 bytes.
     let text = filled(32, |out, room, written| unsafe {
@@ -809,7 +696,8 @@ pub fn format_undo(steps: Steps) -> String {
     String::from_utf8_lossy(&text.unwrap()).into_owned()
 }
 
-/// The undo numbers after a further apply of these steps; a missing text is an empty one.
+/// Gives the undo numbers after a further level by these steps: those of the text less the steps. Where there is no undo item yet, the text
+/// is empty.
 pub fn accumulate_undo(text: &[u8], left: i32, right: i32) -> (i32, i32) {
     let (mut l, mut r) = (0, 0);
     // SAFETY: a slice by its pointer and length.
@@ -817,28 +705,31 @@ pub fn accumulate_undo(text: &[u8], left: i32, right: i32) -> (i32, i32) {
     (l, r)
 }
 
-/// The text of a range of gains.
+/// Writes the text of a range of gains, such as `094,168`.
 pub fn format_minmax(least: u8, greatest: u8) -> String {
     // SAFETY: as in `read_tag`; the text has seven bytes.
     let text = filled(32, |out, room, written| unsafe { raw::zib_format_minmax(least, greatest, out, room, written) });
     String::from_utf8_lossy(&text.unwrap()).into_owned()
 }
 
-/// Whether an item is a range of which a number leaves 0..255.
+/// Whether an item is a range (`MP3GAIN_MINMAX` or `MP3GAIN_ALBUM_MINMAX`) and one of its numbers would leave 0..255.
 pub fn range_wraps_out(key: &[u8], value: &[u8], steps: i32) -> bool {
     // SAFETY: slices by their pointers and lengths.
     unsafe { raw::zib_range_wraps_out(key.as_ptr(), key.len(), value.as_ptr(), value.len(), steps) }
 }
 
-/// An amount of decibels, exactly: whether it is below zero, its millionths, and the thousand-millionths of one more.
+/// An exact amount of decibels.
 #[derive(Clone, Copy, Debug, PartialEq, Eq)]
 pub struct Decibels {
+    /// Whether it is below zero.
     pub minus: bool,
+    /// Whole millionths of a decibel.
     pub millionths: u64,
+    /// The thousand-millionths of one millionth that are left over, below 1,000,000,000.
     pub rest: u64,
 }
 
-/// Steps as decibels, exactly: each is 1.505149978319906.
+/// Gives steps as decibels, exactly: 1.505149978319906 dB each.
 ///
 /// ```
 /// use zibrunnos::{steps_to_db, Decibels};
@@ -852,7 +743,7 @@ pub fn steps_to_db(steps: i32) -> Decibels {
     Decibels { minus: minus == 1, millionths, rest }
 }
 
-/// The text of a stored value after so many steps, or none where it stays as found.
+/// Moves one stored value by so many steps and gives its new text; `None` where the value stays as it is.
 pub fn shift_stored_value(key: &[u8], value: &[u8], steps: i32) -> Option<String> {
     let mut moved = 0;
     // SAFETY: as in `read_tag`; no such text has more than 32 bytes.
@@ -872,7 +763,7 @@ pub fn shift_stored_value(key: &[u8], value: &[u8], steps: i32) -> Option<String
     (moved == 1).then(|| String::from_utf8_lossy(&text.unwrap()).into_owned())
 }
 
-/// What a level slip asks for.
+/// Reads a level slip: the lines `left=` and `right=`, each with a number, and if wanted `mode=W` or `mode=N`, each ended by LF.
 ///
 /// ```
 /// use zibrunnos::{parse_slip, Mode, Refusal, Steps};
@@ -936,63 +827,19 @@ mod tests {
     }
 
     #[test]
-    fn a_tag_is_its_items() {
-        let mut items = Items::new();
-        items.set(b"AB", b"c").unwrap();
-        let mut tag = Tag::open(items.as_bytes(), items.len()).unwrap();
-        let (mut written, mut longest, mut most) = (0, 0, 0);
-        for i in 0..1000_usize {
-            let key = format!("Key {}{}", i * i % 41, "y".repeat(i % 7));
-            let other = key.to_uppercase();
-            let value = i.to_string().repeat(i % 5);
-            tag.set(key.as_bytes(), value.as_bytes()).unwrap();
-            items.set(key.as_bytes(), value.as_bytes()).unwrap();
-            written += 9 + key.len() + value.len();
-            longest = longest.max(tag.bytes.len());
-            most = most.max(items.as_bytes().len());
-            assert_eq!(tag.get(other.as_bytes()), Ok(Some(value.as_bytes())));
-            assert_eq!(tag.get(b"No key"), Ok(None));
-            assert_eq!(tag.set(b"A", b"x"), Err(Refusal::BadKey));
-            assert_eq!(tag.set(key.as_bytes(), b"\xff"), Err(Refusal::NotUtf8));
-            assert_eq!((tag.len(), tag.items()), (items.len(), Ok(items.clone())));
+    fn the_limits_are_those_of_the_library() {
+        assert!(find_footer(&vec![0; FILE_LIMIT]).is_ok());
+        assert_eq!(find_footer(&vec![0; FILE_LIMIT + 1]), Err(Refusal::FileTooLong));
+        assert_eq!(list_tag(&[0; LIST_LIMIT]), "items=none\n");
+        assert_eq!(list_tag(&[0; LIST_LIMIT + 1]), "refused=1\n");
+        let mut file = Vec::new();
+        for i in 0..ITEM_LIMIT {
+            file = set_item(&file, format!("Key {i}").as_bytes(), b"").unwrap();
         }
-        // More was written than is kept.
-        assert!(longest < written && longest <= 2 * most + 4096);
-        for (key, value) in &items {
-            assert_eq!(tag.get(key), Ok(Some(value)));
-        }
-    }
-
-    #[test]
-    fn a_tag_keeps_what_nobody_can_ask_for() {
-        let area = b"\x01\0\0\0\0\0\0\0TAG\0c\x01\0\0\0\0\0\0\0TAB\0d";
-        let mut tag = Tag::open(area, 2).unwrap();
-        assert_eq!(tag.get(b"TAG"), Err(Refusal::BadKey));
-        assert_eq!(tag.get(b"tab"), Ok(Some(&b"d"[..])));
-        tag.set(b"tab", b"e").unwrap();
-        assert_eq!(tag.items().unwrap().as_bytes(), b"\x01\0\0\0\0\0\0\0TAG\0c\x01\0\0\0\0\0\0\0TAB\0e");
-        assert_eq!(Tag::open(area, 1).err(), Some(Refusal::MalformedArea));
-        assert_eq!(Tag::open(area, usize::MAX).err(), Some(Refusal::MalformedArea));
-    }
-
-    #[test]
-    fn a_tag_is_as_long_as_a_file_at_most() {
-        let mut tag = Tag::open(b"", 0).unwrap();
-        let value = vec![b'x'; 8_388_608 - 11];
-        tag.set(b"AB", &value).unwrap();
-        tag.set(b"AB", &value).unwrap();
-        tag.set(b"AB", &value).unwrap();
-        tag.set(b"CD", &value).unwrap();
-        assert_eq!((tag.len(), tag.items().unwrap().as_bytes().len()), (2, 16_777_216));
-        assert_eq!(tag.set(b"CD", b""), Err(Refusal::NoRoom));
-        assert_eq!(tag.set(b"A", b""), Err(Refusal::BadKey));
-        assert_eq!(tag.get(b"cd"), Ok(Some(&value[..])));
-        let mut area = tag.items().unwrap().as_bytes().to_vec();
-        area.extend(b"\0\0\0\0\0\0\0\0EF\0");
-        let mut tag = Tag::open(&area, 3).unwrap();
-        assert_eq!(tag.get(b"ef"), Ok(Some(&b""[..])));
-        assert_eq!(tag.set(b"ef", b""), Err(Refusal::NoRoom));
-        assert_eq!(tag.items(), Err(Refusal::NoRoom));
+        assert_eq!(gate(&file).unwrap().len(), ITEM_LIMIT);
+        assert_eq!(set_item(&file, b"One more", b""), Err(Refusal::TagTooLarge));
+        assert!(set_item(b"", b"AB", &vec![b'x'; AREA_LIMIT - 11]).is_ok());
+        assert_eq!(set_item(b"", b"AB", &vec![b'x'; AREA_LIMIT - 10]), Err(Refusal::TagTooLarge));
     }
 
     #[test]

@@ -166,55 +166,6 @@ extern "C" {
         written: *mut usize,
     ) -> u32;
 
-    pub fn zib_index_items(
-        area: *const u8,
-        area_len: usize,
-        count: usize,
-        marks: *mut u8,
-        marks_len: usize,
-        places: *mut usize,
-        places_len: usize,
-        entries: *mut usize,
-        used: *mut usize,
-    ) -> u32;
-    pub fn zib_get_indexed(
-        bytes: *const u8,
-        bytes_len: usize,
-        marks: *const u8,
-        marks_len: usize,
-        places: *const usize,
-        places_len: usize,
-        key: *const u8,
-        key_len: usize,
-        there: *mut u32,
-        start: *mut usize,
-        size: *mut usize,
-    ) -> u32;
-    pub fn zib_set_indexed(
-        bytes: *mut u8,
-        bytes_len: usize,
-        marks: *mut u8,
-        marks_len: usize,
-        places: *mut usize,
-        places_len: usize,
-        key: *const u8,
-        key_len: usize,
-        value: *const u8,
-        value_len: usize,
-        entries: *mut usize,
-        used: *mut usize,
-    ) -> u32;
-    pub fn zib_write_indexed(
-        bytes: *const u8,
-        bytes_len: usize,
-        places: *const usize,
-        places_len: usize,
-        out: *mut u8,
-        out_len: usize,
-        items: *mut usize,
-        written: *mut usize,
-    ) -> u32;
-
     pub fn zib_find_ape_footer(file: *const u8, file_len: usize, there: *mut u32, footer: *mut usize) -> u32;
     pub fn zib_read_ape_tag(
         file: *const u8,

@@ -15,7 +15,7 @@ ghost use Rattle.c_area.specs.AreaFace.{editedFace};
 use area_edit::Edited;
 
 // The reply to an edit, and its counts into the lent numbers.
-pub fn edited(e: Edited, items: &mut usize, written: &mut usize) -> u32
+fn edited(e: Edited, items: &mut usize, written: &mut usize) -> u32
     ensures { λ r. ⌜ (let face = editedFace e (now (items .entry)) (now (written .entry)) in
         (r ≡ face .reply) × (now (items .exit) ≡ face .items) × (now (written .exit) ≡ face .written)) ⌝ }
 {

@@ -75,7 +75,7 @@ pub extern "C" fn zib_item_at(
 }
 
 // The reply to get, and what it found into the lent numbers.
-pub fn found(f: Found, there: &mut u32, start: &mut usize, size: &mut usize) -> u32
+fn found(f: Found, there: &mut u32, start: &mut usize, size: &mut usize) -> u32
     ensures { λ r. ⌜ (let face = foundFace f (now (there .entry)) (now (start .entry)) (now (size .entry)) in
         (r ≡ face .reply) × (now (there .exit) ≡ face .there) × (now (start .exit) ≡ face .start) × (now (size .exit) ≡ face .size)) ⌝ }
 {

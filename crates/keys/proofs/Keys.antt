@@ -1,13 +1,11 @@
 -- Laws of keys: equality without case is an equivalence, upper-casing keeps a key equal, and the lookup goes by the key without case.
-use Prim.Native.Nat.{ℕ, zero, suc, _+_, _-_, _≤_, _<_}
-use native.Mathlib.Numerals.{add-one}
+use Prim.Native.Nat.{ℕ, zero, suc, _-_, _≤_, _<_}
 use native.Mathlib.Omega.{arith}
 use mathlib.Core.Path.{_≡_, refl, sym, ap, _∙_, fun-ext}
-use mathlib.Core.Bool.{Bool, true, false, not, _&&_, _||_, cond, and-assoc, and-eq-true-iff, true≢false}
+use mathlib.Core.Bool.{Bool, true, false, not, _&&_, _||_, cond, and-eq-true-iff, true≢false}
 use mathlib.Core.Option.{Option, none, some, Option·map}
 use mathlib.Core.List.{List, [], _∷_, map, map-map}
-use lib.ListN.{length, getD, take, drop, length-map, length-drop}
-use lib.Seq.{take-length, getD-drop, drop-drop}
+use lib.ListN.{length, getD, take, drop, length-map}
 use lib.Dec.{leb, eqb}
 use borrow.Author.Tests.{lt-leb, le-leb, leb-true, leb-false, eqb-true, eqb-false, eq-eqb, ne-eqb}
 use Rattle.lists.specs.Bytes.{among, all, same, placeOf}
@@ -158,58 +156,6 @@ key-differs a b i h p q e = key-step a b i h p q ∙ rw e
 pub key-nil : sameKey [] [] ≡ true
 unfolding sameKey same upperAll
 key-nil = refl
-
--- ---- keys compared by blocks
-
--- two keys are the same where what is before a place and what is from it on are
-key-split : (n : ℕ) (a b : List ℕ) → sameKey a b ≡ (sameKey (take n a) (take n b) && sameKey (drop n a) (drop n b))
-unfolding sameKey same upperAll
-key-split zero a b = refl
-key-split (suc n) [] [] = refl
-key-split (suc n) [] (y ∷ b) = refl
-key-split (suc n) (x ∷ a) [] = refl
-key-split (suc n) (x ∷ a) (y ∷ b) =
-    rw (key-split n a b) (sym (and-assoc (eqb (upper x) (upper y)) (sameKey (take n a) (take n b)) (sameKey (drop n a) (drop n b))))
-
--- one more letter of a block is the same, or the block differs
-pub key-gather : (a b : List ℕ) (at k : ℕ) (differ : Bool) → at + k < length a → at + k < length b
-    → not differ ≡ sameKey (take k (drop at a)) (take k (drop at b))
-    → not (differ || not (eqb (upper (getD a (at + k) 0)) (upper (getD b (at + k) 0)))) ≡ sameKey (take (k + 1) (drop at a)) (take (k + 1) (drop at b))
-key-gather a b at k differ p q e =
-    gather differ (eqb (upper (getD a (at + k) 0)) (upper (getD b (at + k) 0)))
-    ∙ rw (e, add-one, key-last (drop at a) (drop at b) k (simp length-drop (omega arith)) (simp length-drop (omega arith))) (simp getD-drop)
-  where
-    gather : (d t : Bool) → not (d || not t) ≡ (t && not d)
-    gather true t = sym (and-false t)
-    gather false true = refl
-    gather false false = refl
-
--- a block of w letters from i: the keys differ where it does, and where it does not, they are the same where what is behind it is
-module _ (w : ℕ) (a b : List ℕ) (i : ℕ) (rest : sameKey a b ≡ sameKey (drop i a) (drop i b)) where
-  pub block-differs : sameKey (take w (drop i a)) (take w (drop i b)) ≡ false → sameKey a b ≡ false
-  block-differs e = rest ∙ key-split w (drop i a) (drop i b) ∙ rw e
-
-  pub block-alike : sameKey (take w (drop i a)) (take w (drop i b)) ≡ true → sameKey a b ≡ sameKey (drop (i + w) a) (drop (i + w) b)
-  block-alike e = rest ∙ key-split w (drop i a) (drop i b) ∙ rw e (simp drop-drop)
-
--- the last w letters: the keys differ where they do, and where they do not, what is from a place among them on is the same
-module _ (w : ℕ) (a b : List ℕ) (last : ℕ) (p : length a ≡ last + w) (q : length b ≡ last + w) where
-  last-block : (s : List ℕ) → length s ≡ last + w → take w (drop last s) ≡ drop last s
-  last-block s h = let n : length (drop last s) ≡ w = simp length-drop (omega arith) in rw (← n) (take-length (drop last s))
-
-  pub last-differs : sameKey (take w (drop last a)) (take w (drop last b)) ≡ false → sameKey a b ≡ false
-  last-differs e =
-      let f : sameKey (drop last a) (drop last b) ≡ false = rw (last-block a p, last-block b q) at e in
-      key-split last a b ∙ rw f (and-false (sameKey (take last a) (take last b)))
-
-  pub last-alike : sameKey (take w (drop last a)) (take w (drop last b)) ≡ true → (i : ℕ) → last ≤ i → sameKey (drop i a) (drop i b) ≡ true
-  last-alike e i h =
-      let n = i - last in
-      let t : sameKey (drop last a) (drop last b) ≡ true = rw (last-block a p, last-block b q) at e in
-      let f : sameKey (drop n (drop last a)) (drop n (drop last b)) ≡ true =
-      and-eq-true-iff (sameKey (take n (drop last a)) (take n (drop last b))) (sameKey (drop n (drop last a)) (drop n (drop last b))) .0 (sym (key-split n (drop last a) (drop last b)) ∙ t) .1 in
-      let place : i ≡ last + n = omega arith in
-      rw place (simp drop-drop at f)
 
 -- ---- tests that read keys without regard to case
 

@@ -105,7 +105,7 @@ fn put_16(out: &mut [u8], at: usize, src: &[u8]) -> usize
 
 // Writes all of `src` into `out` from `at`, sixteen bytes at a time where there are as many, and answers where it ends. The last sixteen may
 // reach into what is written before them, and write the same there again.
-pub fn put_blocks(out: &mut [u8], at: usize, src: &[u8]) -> usize
+fn put_blocks(out: &mut [u8], at: usize, src: &[u8]) -> usize
     requires { ⌜ at + length (now src) ≤ length (now out) ⌝ }
     ensures { λ r. ⌜ (r ≡ at + length (now (src .entry))) × (now (out .exit) ≡ splice (now (out .entry)) at (now (src .entry))) ⌝ }
 {

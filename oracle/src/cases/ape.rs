@@ -557,7 +557,7 @@ extern "C" fn footer_face(file: *const u8, length: usize, there: &mut u32, foote
 
 fn bench(b: &mut Bench) {
     let value = "The quick brown fox jumps over the lazy dog";
-    for (n, things) in [(1, "item"), (41, "items"), (256, "items")] {
+    for (n, things) in [(1, "item"), (41, "items")] {
         let tag = tag_of((0..n).map(|i| item(&format!("KEY_{i:03}"), value)).collect());
         let file = reach::replace(&vec![0x55; 4096], &tag);
         let mut area = vec![0; 3 * file.len()];

@@ -1,4 +1,4 @@
-//! Crates `keys`, `items`, `area_edit`, `area_drop`, `area_values`, `area_gains` and `index`: the item area beside the published `ApeTag`.
+//! Crates `keys`, `items`, `area_edit`, `area_drop`, `area_values` and `area_gains`: the item area beside the published `ApeTag`.
 
 use super::ape::{self, area_of, is_area, item, tag_of, written};
 use super::Case;
@@ -8,8 +8,6 @@ use crate::ape::{
 use crate::tools::{hex, Bench, Compare, Record, Rng};
 use std::cell::Cell;
 use std::hint::black_box;
-
-use library::Indexed;
 
 pub const CASE: Case = Case { name: "items", record, compare, bench };
 
@@ -132,54 +130,6 @@ mod library {
             items: *mut usize,
             written: *mut usize,
         ) -> u32;
-        fn zib_index_items(
-            area: *const u8,
-            length: usize,
-            count: usize,
-            marks: *mut u8,
-            marks_room: usize,
-            places: *mut usize,
-            places_room: usize,
-            entries: *mut usize,
-            used: *mut usize,
-        ) -> u32;
-        fn zib_get_indexed(
-            bytes: *const u8,
-            length: usize,
-            marks: *const u8,
-            marks_length: usize,
-            places: *const usize,
-            places_length: usize,
-            key: *const u8,
-            key_length: usize,
-            there: *mut u32,
-            start: *mut usize,
-            size: *mut usize,
-        ) -> u32;
-        fn zib_set_indexed(
-            bytes: *mut u8,
-            room: usize,
-            marks: *mut u8,
-            marks_room: usize,
-            places: *mut usize,
-            places_room: usize,
-            key: *const u8,
-            key_length: usize,
-            value: *const u8,
-            value_length: usize,
-            entries: *mut usize,
-            used: *mut usize,
-        ) -> u32;
-        fn zib_write_indexed(
-            bytes: *const u8,
-            length: usize,
-            places: *const usize,
-            places_length: usize,
-            out: *mut u8,
-            room: usize,
-            items: *mut usize,
-            written: *mut usize,
-        ) -> u32;
     }
 
     pub fn is_key(key: &[u8]) -> bool {
@@ -293,89 +243,6 @@ mod library {
             let (p, n, o, m) = (area.as_ptr(), area.len(), out.as_mut_ptr(), out.len());
             zib_set_replaygain(p, n, count, a.0, a.1, b.0, b.1, c.0, c.1, d.0, d.1, e.0, e.1, o, m, i, w)
         })
-    }
-
-    /// How many entries the index has, and how many bytes are in use.
-    pub fn index_items(area: &[u8], count: usize, marks: &mut [u8], places: &mut [usize]) -> Edited {
-        edited(|e, u| unsafe {
-            let (a, m, p) = (area.as_ptr(), marks.as_mut_ptr(), places.as_mut_ptr());
-            zib_index_items(a, area.len(), count, m, marks.len(), p, places.len(), e, u)
-        })
-    }
-
-    /// The value as a part of the bytes.
-    pub fn get_indexed<'a>(
-        bytes: &'a [u8],
-        marks: &[u8],
-        places: &[usize],
-        key: &[u8],
-    ) -> Result<Option<&'a [u8]>, u32> {
-        let (mut there, mut start, mut size) = (7, 7, 7);
-        let reply = unsafe {
-            let (b, m, p, k) = (bytes.as_ptr(), marks.as_ptr(), places.as_ptr(), key.as_ptr());
-            let (t, s, n) = (&mut there, &mut start, &mut size);
-            zib_get_indexed(b, bytes.len(), m, marks.len(), p, places.len(), k, key.len(), t, s, n)
-        };
-        match (reply, there, start, size) {
-            (0, 0, 0, 0) => Ok(None),
-            (0, 1, _, _) => Ok(Some(&bytes[start..start + size])),
-            (r, 7, 7, 7) if r != 0 => Err(r),
-            other => panic!("zib_get_indexed answers {other:?}"),
-        }
-    }
-
-    pub fn write_indexed(bytes: &[u8], places: &[usize], out: &mut [u8]) -> Edited {
-        edited(|i, w| unsafe {
-            let (b, p, o) = (bytes.as_ptr(), places.as_ptr(), out.as_mut_ptr());
-            zib_write_indexed(b, bytes.len(), p, places.len(), o, out.len(), i, w)
-        })
-    }
-
-    /// Bytes with an index of their items: of the bytes the first `used` count, of the marks and places the first `entries`.
-    #[derive(Debug, Clone, PartialEq)]
-    pub struct Indexed {
-        pub bytes: Vec<u8>,
-        pub marks: Vec<u8>,
-        pub places: Vec<usize>,
-        pub entries: usize,
-        pub used: usize,
-    }
-
-    impl Indexed {
-        /// An area with its index, and room for `more` entries and `room` bytes.
-        pub fn of(area: &[u8], count: usize, more: usize, room: usize) -> Result<Self, u32> {
-            // An item has nine bytes or more.
-            let most = area.len() / 9 + more;
-            let (mut marks, mut places) = (vec![0xC3; most], vec![0xC3; most]);
-            let (entries, used) = index_items(area, count, &mut marks, &mut places)?;
-            let mut bytes = area.to_vec();
-            bytes.resize(area.len() + room, 0xC3);
-            Ok(Indexed { bytes, marks, places, entries, used })
-        }
-
-        pub fn get(&self, key: &[u8]) -> Result<Option<&[u8]>, u32> {
-            get_indexed(&self.bytes[..self.used], &self.marks[..self.entries], &self.places[..self.entries], key)
-        }
-
-        /// A refused call leaves the numbers.
-        pub fn set(&mut self, key: &[u8], value: &[u8]) -> Result<(), u32> {
-            let before = (self.entries, self.used);
-            let reply = unsafe {
-                let (b, m, p) = (self.bytes.as_mut_ptr(), self.marks.as_mut_ptr(), self.places.as_mut_ptr());
-                let (k, v) = (key.as_ptr(), value.as_ptr());
-                let (i, j, n) = (self.bytes.len(), self.marks.len(), self.places.len());
-                zib_set_indexed(b, i, m, j, p, n, k, key.len(), v, value.len(), &mut self.entries, &mut self.used)
-            };
-            if reply != 0 {
-                assert_eq!((self.entries, self.used), before, "a refused call changed a lent number");
-                return Err(reply);
-            }
-            Ok(())
-        }
-
-        pub fn write(&self, out: &mut [u8]) -> Edited {
-            write_indexed(&self.bytes[..self.used], &self.places[..self.entries], out)
-        }
     }
 }
 
@@ -576,6 +443,17 @@ fn both(c: &mut Compare, area: &[u8], count: usize, op: &Op) {
     }
     let what = format!("{op:?} on an area of {count} items");
     c.bytes(&what, area, |s| published(s, count, op), |s| ours(s, count, op));
+}
+
+/// Calls one after another, each on the area that the one before left; the area after the last.
+fn each(c: &mut Compare, mut area: Vec<u8>, mut count: usize, ops: &[Op]) -> (Vec<u8>, usize) {
+    for op in ops {
+        both(c, &area, count, op);
+        if let Ok(Answer::Area(n, bytes)) = ours(&area, count, op) {
+            (area, count) = (bytes, n);
+        }
+    }
+    (area, count)
 }
 
 /// Keys that meet each other in another case, keys of mp3gain, keys at the ends of the rule, and keys that it refuses.
@@ -813,23 +691,16 @@ fn compare(c: &mut Compare) {
             }
         }
     }
-    indexes(c);
+    near_keys(c);
     // Lists of calls, each on the area that the one before left.
     for turn in 0..c.count / 40 {
-        let (mut area, mut count) = some_area(&mut c.rng);
-        for _ in 0..8 {
-            let op = some_op(&mut c.rng);
-            both(c, &area, count, &op);
-            if let Ok(Answer::Area(n, bytes)) = ours(&area, count, &op) {
-                (area, count) = (bytes, n);
-            }
-        }
+        let (area, count) = some_area(&mut c.rng);
+        let ops: Vec<Op> = (0..8).map(|_| some_op(&mut c.rng)).collect();
+        let (mut area, count) = each(c, area, count, &ops);
         let op = Op::SetReplaygain(some_gains(&mut c.rng));
         both(c, &area, count, &op);
         let (gains, n) = some_gain_area(&mut c.rng);
         both(c, &gains, n, &op);
-        let ops = some_indexed_ops(&mut c.rng, &area, count);
-        by_index(c, &area, count, &ops);
         // The same area damaged.
         let op = some_op(&mut c.rng);
         if !area.is_empty() {
@@ -838,267 +709,16 @@ fn compare(c: &mut Compare) {
         }
         both(c, &area, count, &op);
         walk(c, &area);
-        by_index(c, &area, count, &ops[..ops.len().min(2)]);
         let n = c.rng.below(area.len() + 1);
         both(c, &area[..n], count, &op);
-        by_index(c, &area[..n], count, &ops[..ops.len().min(2)]);
-        any_index(c, &area);
         // Keys of few lengths, nearly equal.
         if turn % 4 == 0 {
             let (near, n) = some_near_area(&mut c.rng);
-            let ops = some_indexed_ops(&mut c.rng, &near, n);
-            by_index(c, &near, n, &ops);
-            any_index(c, &near);
+            let ops = some_near_ops(&mut c.rng, &near, n);
+            each(c, near, n, &ops);
         }
     }
     limits(c);
-}
-
-/// The marks and places of an area, by the rules for an area and a key.
-fn index_of(area: &[u8], count: usize) -> Result<(Vec<u8>, Vec<usize>), u32> {
-    if !is_area(area, count) {
-        return Err(12);
-    }
-    let mut at = 0;
-    let entry = |(key, value): &(&[u8], &[u8])| {
-        let place = at;
-        at += 9 + key.len() + value.len();
-        (if is_key(key) { key.len() as u8 } else { 0 }, place)
-    };
-    Ok(parts(area, count).iter().map(entry).unzip())
-}
-
-/// The library's index, tried with ample room, exact room, and one mark and one place less. It is refused where `get` refuses the area.
-fn our_index(area: &[u8], count: usize) -> Result<(Vec<u8>, Vec<usize>), u32> {
-    let tried = |marks: usize, places: usize| {
-        let (mut marks, mut places) = (vec![0xC3; marks], vec![0xC3; places]);
-        let reply = library::index_items(area, count, &mut marks, &mut places);
-        assert!(reply.is_err() || reply == Ok((count, area.len())), "index_items answers {reply:?}");
-        let n = reply.map_or(0, |(n, _)| n);
-        assert!(
-            marks[n..].iter().all(|&m| m == 0xC3) && places[n..].iter().all(|&p| p == 0xC3),
-            "wrote past its index"
-        );
-        marks.truncate(n);
-        places.truncate(n);
-        reply.map(|_| (marks, places))
-    };
-    let ample = area.len() / 9 + 3;
-    let index = tried(ample, ample);
-    assert_eq!(library::get(area, count, b"AB").err(), index.clone().err(), "get refuses otherwise");
-    match &index {
-        Err(_) => assert_eq!(tried(0, 0), index, "no room"),
-        Ok((marks, _)) => {
-            let n = marks.len();
-            for (marks, places) in [(n, n), (n, ample), (ample, n)] {
-                assert_eq!(tried(marks, places), index, "exact room");
-            }
-            if n > 0 {
-                assert_eq!(tried(n - 1, ample), Err(5), "one mark short");
-                assert_eq!(tried(ample, n - 1), Err(5), "one place short");
-            }
-        }
-    }
-    index
-}
-
-/// The first entry that names an item with this key: its mark is the key's length, the key stands there, and the item lies in the bytes.
-fn entry_by(bytes: &[u8], marks: &[u8], places: &[usize], key: &[u8]) -> Option<usize> {
-    marks.iter().zip(places).position(|(&mark, &place)| {
-        let stop = place.saturating_add(8).saturating_add(key.len());
-        mark as usize == key.len()
-            && bytes.get(place.saturating_add(8)..stop).is_some_and(|k| k.eq_ignore_ascii_case(key))
-            && stop + 1 + size_at(bytes, place) <= bytes.len()
-    })
-}
-
-fn size_at(bytes: &[u8], place: usize) -> usize {
-    u32::from_le_bytes(bytes[place..place + 4].try_into().unwrap()) as usize
-}
-
-/// Where the value of that item starts, and its length.
-fn get_by(bytes: &[u8], marks: &[u8], places: &[usize], key: &[u8]) -> Result<Option<(usize, usize)>, u32> {
-    if !(2..=255).contains(&key.len()) {
-        return Err(3);
-    }
-    match entry_by(bytes, marks, places, key) {
-        Some(number) => Ok(Some((places[number] + 9 + key.len(), size_at(bytes, places[number])))),
-        None if is_key(key) => Ok(None),
-        None => Err(3),
-    }
-}
-
-/// The same by the library, whose wrapper takes the value out of the bytes.
-fn our_get_by(bytes: &[u8], marks: &[u8], places: &[usize], key: &[u8]) -> Result<Option<(usize, usize)>, u32> {
-    let value = library::get_indexed(bytes, marks, places, key)?;
-    Ok(value.map(|v| (v.as_ptr() as usize - bytes.as_ptr() as usize, v.len())))
-}
-
-/// Bytes and index after a set: the item is written behind the bytes in use, with the spelling that is there or in upper case.
-fn set_by(i: &Indexed, key: &[u8], value: &[u8]) -> Result<Indexed, u32> {
-    if i.used > i.bytes.len() || i.entries > i.marks.len() || i.entries > i.places.len() {
-        return Err(12);
-    }
-    refused(&Op::Set(key.to_vec(), value.to_vec()))?;
-    let found = entry_by(&i.bytes[..i.used], &i.marks[..i.entries], &i.places[..i.entries], key);
-    let spelled = match found {
-        Some(number) => i.bytes[i.places[number] + 4..i.places[number] + 9 + key.len()].to_vec(),
-        None => [&[0; 4], &key.to_ascii_uppercase()[..], &[0]].concat(),
-    };
-    let new = [&(value.len() as u32).to_le_bytes(), &spelled[..], value].concat();
-    let (used, entries) = (i.used + new.len(), if found.is_some() { i.entries } else { i.entries + 1 });
-    if used > i.bytes.len().min(LIMIT) || entries > i.marks.len() || entries > i.places.len() {
-        return Err(5);
-    }
-    let mut after = Indexed { entries, used, ..i.clone() };
-    let number = found.unwrap_or(i.entries);
-    after.bytes[i.used..used].copy_from_slice(&new);
-    after.marks[number] = key.len() as u8;
-    after.places[number] = i.used;
-    Ok(after)
-}
-
-/// The same by the library; a refused call changes nothing.
-fn our_set_by(i: &Indexed, key: &[u8], value: &[u8]) -> Result<Indexed, u32> {
-    let mut after = i.clone();
-    let reply = after.set(key, value);
-    assert!(reply.is_ok() || after == *i, "a refused call changed something");
-    reply.map(|()| after)
-}
-
-/// The library's set by an index with room, tried with exact room too, with one byte, mark or place less, and with numbers that are too large.
-fn our_set(i: &Indexed, key: &[u8], value: &[u8]) -> Result<Indexed, u32> {
-    let cut = |marks: usize, places: usize, bytes: usize| {
-        let mut i = i.clone();
-        i.marks.truncate(marks);
-        i.places.truncate(places);
-        i.bytes.truncate(bytes);
-        our_set_by(&i, key, value)
-    };
-    let after = our_set_by(i, key, value);
-    match &after {
-        Ok(a) => {
-            let exact = cut(a.entries, a.entries, a.used).expect("exact room");
-            assert!(exact.bytes == a.bytes[..a.used], "exact room, other bytes");
-            assert!(exact.marks == a.marks[..a.entries], "exact room, other marks");
-            assert!(exact.places == a.places[..a.entries], "exact room, other places");
-            let few = if a.entries > i.entries { 5 } else { 12 };
-            assert_eq!(cut(a.entries, a.entries, a.used - 1).err(), Some(5), "one byte short");
-            assert_eq!(cut(a.entries - 1, a.entries, a.used).err(), Some(few), "one mark short");
-            assert_eq!(cut(a.entries, a.entries - 1, a.used).err(), Some(few), "one place short");
-        }
-        Err(r) => assert_eq!(cut(i.entries, i.entries, i.used).err(), Some(*r), "no room"),
-    }
-    for (entries, used) in [
-        (i.entries, i.bytes.len() + 1),
-        (i.entries, usize::MAX),
-        (i.marks.len().min(i.places.len()) + 1, i.used),
-        (usize::MAX, i.used),
-    ] {
-        let large = Indexed { entries, used, ..i.clone() };
-        assert_eq!(our_set_by(&large, key, value).err(), Some(12), "a number too large");
-    }
-    after
-}
-
-/// The items at these places, by document 01's rule for an item.
-fn write_by(bytes: &[u8], places: &[usize]) -> Result<(usize, Vec<u8>), u32> {
-    let mut area = Vec::new();
-    for &place in places {
-        let [.., end] = item_at(bytes, place)?.ok_or(12u32)?;
-        area.extend(&bytes[place..end]);
-    }
-    Ok((places.len(), area))
-}
-
-/// The same by the library, tried with ample room, exact room, and one byte less.
-fn our_write_by(bytes: &[u8], places: &[usize]) -> Result<(usize, Vec<u8>), u32> {
-    let items = Cell::new(0);
-    let area = written(bytes.len() * places.len() + 1, |out| {
-        let (n, length) = library::write_indexed(bytes, places, out)?;
-        items.set(n);
-        Ok(length)
-    })?;
-    Ok((items.get(), area))
-}
-
-/// The answers to gets and sets one after another: by an index, and without.
-type Answers = Result<Vec<[Result<Answer, u32>; 2]>, u32>;
-
-/// Of one published tag, which knows no index: the same twice.
-fn published_list(area: &[u8], count: usize, ops: &[Op]) -> Answers {
-    if !is_area(area, count) {
-        return Err(12);
-    }
-    let (texts, mut tag) = parsed(area, count);
-    let mut answer = |op: &Op| refused(op).map(|()| applied(texts, &mut tag, op));
-    Ok(ops.iter().map(|op| answer(op)).map(|a| [a.clone(), a]).collect())
-}
-
-/// By one index, and by the library's other calls.
-fn indexed_list(area: &[u8], count: usize, ops: &[Op]) -> Answers {
-    let grown = |op: &Op| if let Op::Set(key, value) = op { 9 + key.len() + value.len() } else { 0 };
-    let mut index = Indexed::of(area, count, ops.len() + 1, ops.iter().map(grown).sum())?;
-    let (mut area, mut count) = (area.to_vec(), count);
-    let answer = |op: &Op| {
-        let by_index = match op {
-            Op::Get(key) => index.get(key).map(|v| Answer::Value(v.map(<[u8]>::to_vec))),
-            Op::Set(key, value) => our_set(&index, key, value).and_then(|after| {
-                index = after;
-                let (n, bytes) = our_write_by(&index.bytes[..index.used], &index.places[..index.entries])?;
-                Ok(Answer::Area(n, bytes))
-            }),
-            _ => unreachable!(),
-        };
-        let without = ours(&area, count, op);
-        if let Ok(Answer::Area(n, bytes)) = &without {
-            (area, count) = (bytes.clone(), *n);
-        }
-        [by_index, without]
-    };
-    Ok(ops.iter().map(answer).collect())
-}
-
-/// `Compare::bytes`, told what differs only where something does.
-fn held<A: PartialEq + std::fmt::Debug>(
-    c: &mut Compare,
-    what: impl FnOnce() -> String,
-    input: &[u8],
-    published: impl Fn(&[u8]) -> A,
-    ours: impl Fn(&[u8]) -> A,
-) {
-    if published(input) == ours(input) {
-        c.inputs += 1;
-        return;
-    }
-    c.bytes(&what(), input, published, ours);
-}
-
-/// The index of an area, and gets and sets by it.
-fn by_index(c: &mut Compare, area: &[u8], count: usize, ops: &[Op]) {
-    held(
-        c,
-        || format!("index_items of an area of {count} items"),
-        area,
-        |s| index_of(s, count),
-        |s| our_index(s, count),
-    );
-    let differ = |ops: &[Op]| published_list(area, count, ops) != indexed_list(area, count, ops);
-    if !differ(ops) {
-        // Each call on a good area is a question, and a malformed one is refused once for all of them.
-        c.inputs += if is_area(area, count) { ops.len() as u64 } else { 1 };
-        return;
-    }
-    // Calls are left out while it still differs, the last ones first.
-    let mut ops = ops.to_vec();
-    for at in (0..ops.len()).rev() {
-        let fewer = [&ops[..at], &ops[at + 1..]].concat();
-        if differ(&fewer) {
-            ops = fewer;
-        }
-    }
-    let what = format!("{ops:?} by an index of an area of {count} items");
-    c.bytes(&what, area, |s| published_list(s, count, &ops), |s| indexed_list(s, count, &ops));
 }
 
 /// Each letter in any case.
@@ -1129,7 +749,7 @@ fn some_near_area(rng: &mut Rng) -> (Vec<u8>, usize) {
 }
 
 /// Gets of each key of an area in changed letter case and of other keys, then sets of some of both, then gets again.
-fn some_indexed_ops(rng: &mut Rng, area: &[u8], count: usize) -> Vec<Op> {
+fn some_near_ops(rng: &mut Rng, area: &[u8], count: usize) -> Vec<Op> {
     let mut keys: Vec<Vec<u8>> = parts(area, count).iter().map(|(key, _)| key.to_vec()).collect();
     keys.extend([some_key(rng), some_near_key(rng)]);
     let mut ops: Vec<Op> = keys.iter().map(|key| Op::Get(any_case(rng, key))).collect();
@@ -1145,154 +765,31 @@ fn some_indexed_ops(rng: &mut Rng, area: &[u8], count: usize) -> Vec<Op> {
     ops
 }
 
-/// An index that need not be of these bytes: one of them, stale or random, with marks and places of different number.
-fn any_index(c: &mut Compare, area: &[u8]) {
-    let rng = &mut c.rng;
-    let mut bytes = area[..area.len().min(2000)].to_vec();
-    if rng.below(8) == 0 {
-        let n = rng.below(60);
-        bytes = rng.bytes(n);
-    }
-    let (mut marks, mut places, mut keys) = (vec![], vec![], vec![]);
-    let mut at = 0;
-    while let Ok(Some([key, stop, _, end])) = item_at(&bytes, at) {
-        marks.push((stop - key) as u8);
-        places.push(at);
-        keys.push(bytes[key..stop].to_vec());
-        at = end;
-    }
-    for _ in 0..rng.below(4) {
-        marks.push(rng.next() as u8);
-        places.push(rng.pick(&[0, 1, 8, 9, bytes.len(), 1 << 32, usize::MAX - 8, usize::MAX]));
-    }
-    for _ in 0..rng.below(4) {
-        if !marks.is_empty() {
-            let (i, j) = (rng.below(marks.len()), rng.below(marks.len()));
-            match rng.below(4) {
-                0 => places.swap(i, j),
-                1 => places[i] = rng.below(bytes.len() + 2),
-                2 => marks[i] = rng.below(12) as u8,
-                _ => places[i] = places[i].wrapping_sub(1),
-            }
-        }
-    }
-    if !bytes.is_empty() && rng.below(2) == 0 {
-        let at = rng.below(bytes.len());
-        bytes[at] = rng.next() as u8;
-    }
-    if rng.below(4) == 0 {
-        marks.truncate(rng.below(marks.len() + 1));
-    }
-    if rng.below(4) == 0 {
-        places.truncate(rng.below(places.len() + 1));
-    }
-    for _ in 0..4 {
-        let rng = &mut c.rng;
-        let key = match rng.below(4) {
-            0 => some_key(rng),
-            1 => {
-                // What stands at a place, as long as its mark says.
-                let i = rng.below(marks.len().min(places.len()) + 1);
-                let start = places.get(i).map_or(0, |p| p.saturating_add(8));
-                let n = marks.get(i).map_or(2, |&m| m as usize);
-                bytes.get(start..start.saturating_add(n)).map_or(vec![], <[u8]>::to_vec)
-            }
-            _ if keys.is_empty() => some_near_key(rng),
-            _ => {
-                let i = rng.below(keys.len());
-                any_case(rng, &keys[i])
-            }
-        };
-        // Most often as many as there are, with room behind them.
-        let all = (bytes.len(), marks.len().min(places.len()));
-        let used = if rng.below(2) == 0 { all.0 } else { rng.below(all.0 + 2) };
-        let entries = if rng.below(2) == 0 { all.1 } else { rng.below(all.1 + 2) };
-        let room = rng.pick(&[0, 0, 20, 500]);
-        let value = some_value(rng);
-        let entry = || format!("{} by marks {marks:?} and places {places:?}", hex(&key));
-        held(
-            c,
-            || format!("get of {}", entry()),
-            &bytes,
-            |s| get_by(s, &marks, &places, &key),
-            |s| our_get_by(s, &marks, &places, &key),
-        );
-        let index = |s: &[u8]| {
-            let (bytes, marks, places) = ([s, &vec![0xC3; room]].concat(), marks.clone(), places.clone());
-            Indexed { bytes, marks, places, entries, used: used.min(s.len() + 1) }
-        };
-        held(
-            c,
-            || format!("set to {} behind {used} bytes, {entries} entries, of {}", hex(&value), entry()),
-            &bytes,
-            |s| set_by(&index(s), &key, &value),
-            |s| our_set_by(&index(s), &key, &value),
-        );
-    }
-    held(c, || format!("the items at {places:?}"), &bytes, |s| write_by(s, &places), |s| our_write_by(s, &places));
-}
-
-/// Small areas, each place of the sought entry among many, and each byte of a key.
-fn indexes(c: &mut Compare) {
-    let bytes = |text: &str| text.as_bytes().to_vec();
-    let mut ops: Vec<Op> = ["aB", "A", "", "TAG", "oGGs", "a\u{1f}", "a\u{7f}", "\u{e9}", "xy", "mp3gain_undo"]
-        .map(|key| Op::Get(bytes(key)))
-        .to_vec();
-    ops.extend([255, 256, 257, 258].map(|n| Op::Get(vec![b'k'; n])));
-    ops.extend([
-        Op::Set(bytes("aB"), bytes("new")),
-        Op::Set(bytes("cd"), bytes("")),
-        Op::Get(bytes("CD")),
-        Op::Set(bytes("TAG"), bytes("x")),
-        Op::Set(bytes("AB"), vec![0xFF]),
-        Op::Set(vec![b'k'; 255], bytes("long")),
-        Op::Set(vec![b'k'; 256], bytes("too long")),
-        Op::Get(vec![b'K'; 255]),
-        Op::Get(bytes("ab")),
-    ]);
-    // Right and wrong counts; every truncation; every change of one byte.
-    for (area, count) in small_areas() {
-        for n in [0, 1, 2, 3, 4, 1 << 32, usize::MAX] {
-            by_index(c, &area, n, &ops);
-        }
-        for n in 0..area.len() {
-            for count in [count, count.saturating_sub(1), 0] {
-                by_index(c, &area[..n], count, &ops);
-            }
-        }
-        for at in 0..area.len() {
-            for value in 0..=255 {
-                let mut other = area.clone();
-                other[at] = value;
-                by_index(c, &other, count, &ops);
-            }
-        }
-    }
+/// Each place of the sought key among many, and each byte of a key.
+fn near_keys(c: &mut Compare) {
     // Each place among up to fifty items: keys of as many lengths, and keys of one.
     for n in 0..=50 {
         let lengths = |i: usize| "Key ".repeat(20)[..i + 2].to_string();
         let one = |i: usize| format!("Key {i:06}");
         for key in [&lengths as &dyn Fn(usize) -> String, &one] {
             let tag = tag_of((0..n).map(|i| item(&key(i), &format!("value {i}"))).collect());
+            let other = || b"other".to_vec();
             let mut ops: Vec<Op> = (0..=n).map(|i| Op::Get(key(i).to_lowercase().into_bytes())).collect();
-            ops.extend((0..=n).map(|i| Op::Set(key(i).to_lowercase().into_bytes(), bytes("other"))));
+            ops.extend((0..=n).map(|i| Op::Set(key(i).to_lowercase().into_bytes(), other())));
             ops.extend((0..=n).map(|i| Op::Get(key(i).into_bytes())));
-            by_index(c, &area_of(&tag), n, &ops);
+            each(c, area_of(&tag), n, &ops);
         }
     }
     // A key that differs in one byte from that of the item, for keys of each length.
     for n in (2..=40).chain([254, 255]) {
         let key: Vec<u8> = (0..n).map(|i| b"MP3Gain@"[i % 8]).collect();
-        let tag = tag_of(vec![item(std::str::from_utf8(&key).unwrap(), "value")]);
+        let area = area_of(&tag_of(vec![item(std::str::from_utf8(&key).unwrap(), "value")]));
         for at in 0..n {
-            let ops: Vec<Op> = (0..=255u8)
-                .map(|b| {
-                    let mut other = key.clone();
-                    other[at] = b;
-                    Op::Get(other)
-                })
-                .collect();
-            by_index(c, &area_of(&tag), 1, &ops);
+            for b in 0..=255 {
+                let mut other = key.clone();
+                other[at] = b;
+                both(c, &area, 1, &Op::Get(other));
+            }
         }
     }
     // Each two bytes at a place of both keys: among eight, at their end, behind them.
@@ -1302,13 +799,7 @@ fn indexes(c: &mut Compare) {
         for a in 0..=255 {
             for b in 0..=255 {
                 (key[at], area[8 + at]) = (a, b);
-                held(
-                    c,
-                    || format!("get of {} by mark 9 and place 0", hex(&key)),
-                    &area,
-                    |s| get_by(s, &[9], &[0], &key),
-                    |s| our_get_by(s, &[9], &[0], &key),
-                );
+                both(c, &area, 1, &Op::Get(key.clone()));
             }
         }
     }
@@ -1394,23 +885,6 @@ fn limits(c: &mut Compare) {
     assert_eq!(library::set(&[], 0, b"AB", &most[11..], &mut out), Ok((1, LIMIT)));
     assert!(out[..LIMIT] == most[..]);
     assert_eq!(library::set(&most, 1, b"AB", &most[11..], &mut out), Ok((1, LIMIT)));
-    // By an index: one may name more bytes than a file has, and sets end at the limit.
-    c.inputs += 10;
-    let mut index = Indexed::of(&more, 1, 2, 1000).unwrap();
-    assert_eq!(index.get(b"ab").map(|v| v.map(<[u8]>::len)), Ok(Some(LIMIT + 1 - 11)));
-    assert_eq!(our_set_by(&index, b"ab", b"v").err(), Some(5));
-    assert_eq!(index.write(&mut out), Err(5));
-    index = Indexed::of(&most, 1, 2, 1000).unwrap();
-    assert_eq!(index.write(&mut out), Ok((1, LIMIT)));
-    assert_eq!(our_set_by(&index, b"CD", b"").err(), Some(5));
-    index = Indexed::of(&big(LIMIT - 12), 1, 2, 1000).unwrap();
-    assert_eq!(our_set_by(&index, b"ab", b"vw").err(), Some(5));
-    let after = our_set_by(&index, b"ab", b"v").unwrap();
-    assert_eq!((after.entries, after.used), (1, LIMIT));
-    assert_eq!(after.write(&mut out), Ok((1, 12)));
-    let empty = Indexed::of(&[], 0, 1, LIMIT + 1000).unwrap();
-    assert_eq!(our_set_by(&empty, b"AB", &text).err(), Some(5));
-    assert_eq!(our_set_by(&empty, b"AB", &text[..LIMIT - 11]).unwrap().used, LIMIT);
 }
 
 fn record(r: &mut Record) {
@@ -1523,76 +997,73 @@ fn texts_in(area: &[u8]) -> usize {
 /// The calls that look a key up, and those on a tag whose last eight items have the eight keys.
 fn bench_keys(b: &mut Bench) {
     let value = "The quick brown fox jumps over the lazy dog";
-    for n in [41, 256] {
-        let plain = (0..n - 8).map(|i| item(&format!("KEY_{i:03}"), value));
-        let tag = tag_of(plain.chain(MP3GAIN_VALUE_KEYS.iter().map(|key| item(key, "+003,-012,N"))).collect());
-        let area = area_of(&tag);
-        let mut out = vec![0; area.len() + 100];
-        for (name, published, ours) in EDITS {
-            b.row(
-                &format!(
-                    "{name}, {n} items, the last eight with the eight keys (Rust: a copy of a tag already parsed)"
-                ),
-                || {
-                    let mut tag = tag.clone();
-                    published(&mut tag);
-                    tag
-                },
-                || ours(&area, n, &mut out),
-            );
-        }
-        let file = reach::serialize(&tag);
-        let mut read = vec![0; 3 * file.len()];
+    let n = 41;
+    let plain = (0..n - 8).map(|i| item(&format!("KEY_{i:03}"), value));
+    let tag = tag_of(plain.chain(MP3GAIN_VALUE_KEYS.iter().map(|key| item(key, "+003,-012,N"))).collect());
+    let area = area_of(&tag);
+    let mut out = vec![0; area.len() + 100];
+    for (name, published, ours) in EDITS {
         b.row(
-            &format!("get_undo_gain, {n} items, the eighth from the end (Rust: a tag already parsed)"),
-            || tag.get_undo_gain(),
-            || library::get_undo_gain(&area, n),
-        );
-        b.row(
-            &format!("get_undo_gain, {n} items, the eighth from the end (both from a file's bytes)"),
-            || read_ape_tag(&file).unwrap().get_undo_gain(),
+            &format!("{name}, {n} items, the last eight with the eight keys (Rust: a copy of a tag already parsed)"),
             || {
-                let (count, length) = ape::library::read_ape_tag(&file, &mut read).unwrap().unwrap();
-                library::get_undo_gain(&read[..length], count)
+                let mut tag = tag.clone();
+                published(&mut tag);
+                tag
             },
-        );
-        b.row(
-            &format!("item_at, {n} items one after another (Rust: over a tag already parsed)"),
-            || texts_of(&tag),
-            || texts_in(&area),
-        );
-        b.row(
-            &format!("item_at, {n} items one after another (both from a file's bytes)"),
-            || texts_of(&read_ape_tag(&file).unwrap()),
-            || {
-                let (_, length) = ape::library::read_ape_tag(&file, &mut read).unwrap().unwrap();
-                texts_in(&read[..length])
-            },
-        );
-        let keys: Vec<&str> = tag.iter().map(|i| i.key()).collect();
-        b.row(
-            &format!("which_key, {n} keys, the last eight the eight keys (Rust: a search of its list)"),
-            || {
-                let place = |k: &&str| MP3GAIN_VALUE_KEYS.iter().position(|name| name.eq_ignore_ascii_case(k));
-                keys.iter().filter_map(place).sum::<usize>()
-            },
-            || keys.iter().filter_map(|k| library::which_key(k.as_bytes())).sum::<usize>(),
-        );
-        // Unknown to the compiler, as a function of an archive is.
-        let face = black_box(which_face as extern "C" fn(*const u8, usize) -> usize);
-        b.row(
-            &format!(
-                "which_key, {n} keys, the last eight the eight keys (Rust: a search of its list, behind a C face too)"
-            ),
-            || keys.iter().map(|k| face(k.as_ptr(), k.len())).filter(|place| *place < 8).sum::<usize>(),
-            || keys.iter().filter_map(|k| library::which_key(k.as_bytes())).sum::<usize>(),
-        );
-        b.row(
-            &format!("is_key, {n} keys (Rust: document 01's rule)"),
-            || keys.iter().filter(|k| is_key(k.as_bytes())).count(),
-            || keys.iter().filter(|k| library::is_key(k.as_bytes())).count(),
+            || ours(&area, n, &mut out),
         );
     }
+    let file = reach::serialize(&tag);
+    let mut read = vec![0; 3 * file.len()];
+    b.row(
+        &format!("get_undo_gain, {n} items, the eighth from the end (Rust: a tag already parsed)"),
+        || tag.get_undo_gain(),
+        || library::get_undo_gain(&area, n),
+    );
+    b.row(
+        &format!("get_undo_gain, {n} items, the eighth from the end (both from a file's bytes)"),
+        || read_ape_tag(&file).unwrap().get_undo_gain(),
+        || {
+            let (count, length) = ape::library::read_ape_tag(&file, &mut read).unwrap().unwrap();
+            library::get_undo_gain(&read[..length], count)
+        },
+    );
+    b.row(
+        &format!("item_at, {n} items one after another (Rust: over a tag already parsed)"),
+        || texts_of(&tag),
+        || texts_in(&area),
+    );
+    b.row(
+        &format!("item_at, {n} items one after another (both from a file's bytes)"),
+        || texts_of(&read_ape_tag(&file).unwrap()),
+        || {
+            let (_, length) = ape::library::read_ape_tag(&file, &mut read).unwrap().unwrap();
+            texts_in(&read[..length])
+        },
+    );
+    let keys: Vec<&str> = tag.iter().map(|i| i.key()).collect();
+    b.row(
+        &format!("which_key, {n} keys, the last eight the eight keys (Rust: a search of its list)"),
+        || {
+            let place = |k: &&str| MP3GAIN_VALUE_KEYS.iter().position(|name| name.eq_ignore_ascii_case(k));
+            keys.iter().filter_map(place).sum::<usize>()
+        },
+        || keys.iter().filter_map(|k| library::which_key(k.as_bytes())).sum::<usize>(),
+    );
+    // Unknown to the compiler, as a function of an archive is.
+    let face = black_box(which_face as extern "C" fn(*const u8, usize) -> usize);
+    b.row(
+        &format!(
+            "which_key, {n} keys, the last eight the eight keys (Rust: a search of its list, behind a C face too)"
+        ),
+        || keys.iter().map(|k| face(k.as_ptr(), k.len())).filter(|place| *place < 8).sum::<usize>(),
+        || keys.iter().filter_map(|k| library::which_key(k.as_bytes())).sum::<usize>(),
+    );
+    b.row(
+        &format!("is_key, {n} keys (Rust: document 01's rule)"),
+        || keys.iter().filter(|k| is_key(k.as_bytes())).count(),
+        || keys.iter().filter(|k| library::is_key(k.as_bytes())).count(),
+    );
 }
 
 /// The Rust's search of its list with a C face of the library's form: the key as a pointer and a length, and 8 for none.
@@ -1620,135 +1091,58 @@ fn bare_walk(area: &[u8], keys: &[usize]) -> usize {
     keys.iter().fold(0, |at, key| at + 9 + key + u32::from_le_bytes(area[at..at + 4].try_into().unwrap()) as usize)
 }
 
-/// A get of an item by an index, and of the published tag.
-fn bench_get_indexed(b: &mut Bench, tag: &ApeTag, what: &str, key: &str) {
-    let index = Indexed::of(&area_of(tag), tag.len(), 0, 0).unwrap();
-    b.row(
-        &format!("get_indexed, {what} (Rust: get, a tag already parsed)"),
-        || tag.get(key),
-        || index.get(key.as_bytes()),
-    );
-}
-
-/// A set of the item of this number by an index, and of the published tag. What a set changes of the index is put back before each: three stores.
-fn bench_set_indexed(b: &mut Bench, tag: &ApeTag, what: &str, number: usize, key: &str, value: &str) {
-    let mut index = Indexed::of(&area_of(tag), tag.len(), 1, 1000).unwrap();
-    let (place, entries, used) = (index.places[number], index.entries, index.used);
-    let mut parsed = tag.clone();
-    b.row(
-        &format!("set_indexed, {what} (Rust: set, a tag already parsed, in place)"),
-        || parsed.set(key, value),
-        || {
-            (index.places[number], index.entries, index.used) = (place, entries, used);
-            index.set(key.as_bytes(), value.as_bytes())
-        },
-    );
-    // The library is given bytes, and tests that they are UTF-8.
-    let text = |bytes| std::str::from_utf8(std::hint::black_box(bytes)).unwrap();
-    b.row(
-        &format!("set_indexed, {what} (Rust: from_utf8 of key and value, set, a tag already parsed, in place)"),
-        || parsed.set(text(key.as_bytes()), text(value.as_bytes())),
-        || {
-            (index.places[number], index.entries, index.used) = (place, entries, used);
-            index.set(key.as_bytes(), value.as_bytes())
-        },
-    );
-    assert_eq!((index.places[number], index.entries), (used, entries), "a set by an index did not find its item");
-}
-
-/// An index made and written, with and without what stands between it and a file's bytes.
-fn bench_index(b: &mut Bench, tag: &ApeTag, what: &str) {
-    let (area, file, n) = (area_of(tag), reach::serialize(tag), tag.len());
-    let (mut marks, mut places) = (vec![0; n], vec![0; n]);
+fn bench_lengths(b: &mut Bench) {
+    let value = "The quick brown fox jumps over the lazy dog";
+    let n = 41;
+    let usual = (0..n - 1).map(|i| item(&format!("{} {i}", USUAL_KEYS[i % 10]), value));
+    let tag = tag_of(usual.chain([item("REPLAYGAIN_REFERENCE_LOUDNESS", value)]).collect());
+    let lengths: Vec<usize> = tag.iter().map(|i| i.key().len()).collect();
+    let last = "replaygain_reference_loudness";
+    let (area, file) = (area_of(&tag), reach::serialize(&tag));
+    let mut out = vec![0; area.len() + 100];
     let mut read = vec![0; 3 * file.len()];
+    let mut done = vec![0; file.len() + 300];
+    let keys = "keys of many lengths";
     b.row(
-        &format!("index_items, {what} (Rust: read_ape_tag of the same file)"),
-        || read_ape_tag(&file),
-        || library::index_items(&area, n, &mut marks, &mut places),
+        &format!("get, the last of {n} items, {keys} (Rust: a tag already parsed)"),
+        || tag.get(last),
+        || library::get(&area, n, last.as_bytes()),
     );
     b.row(
-        &format!("read_ape_tag and index_items, {what} (Rust: read_ape_tag)"),
-        || read_ape_tag(&file),
+        &format!(
+            "no call: a bare walk over {n} items, told where each key ends (Rust: get, {keys}, a tag already parsed)"
+        ),
+        || tag.get(last),
+        || bare_walk(&area, &lengths),
+    );
+    b.row(
+        &format!("get, the last of {n} items, {keys} (both from a file's bytes)"),
+        || read_ape_tag(&file).unwrap().get(last).map(str::len),
         || {
             let (count, length) = ape::library::read_ape_tag(&file, &mut read).unwrap().unwrap();
-            library::index_items(&read[..length], count, &mut marks, &mut places)
+            library::get(&read[..length], count, last.as_bytes()).map(|v| v.map(<[u8]>::len))
         },
     );
-    let index = Indexed::of(&area, n, 0, 0).unwrap();
-    let (mut out, mut done) = (vec![0; area.len()], vec![0; file.len() + 300]);
+    let mut parsed = tag.clone();
     b.row(
-        &format!("write_indexed, {what} (Rust: serialize, header and footer too)"),
-        || reach::serialize(tag),
-        || index.write(&mut out),
+        &format!("set, the last of {n} items, {keys} (Rust: a tag already parsed, in place)"),
+        || parsed.set(last, value),
+        || library::set(&area, n, last.as_bytes(), value.as_bytes(), &mut out),
     );
     b.row(
-        &format!("write_indexed and serialize_ape_tag, {what} (Rust: serialize)"),
-        || reach::serialize(tag),
+        &format!("set, the last of {n} items, {keys} (both from a file's bytes to a tag's bytes)"),
         || {
-            let (count, length) = index.write(&mut out).unwrap();
+            let mut tag = read_ape_tag(&file).unwrap();
+            tag.set(last, value);
+            reach::serialize(&tag)
+        },
+        || {
+            let (count, length) = ape::library::read_ape_tag(&file, &mut read).unwrap().unwrap();
+            let (count, length) =
+                library::set(&read[..length], count, last.as_bytes(), value.as_bytes(), &mut out).unwrap();
             ape::library::serialize_ape_tag(&out[..length], count, &mut done)
         },
     );
-}
-
-fn bench_lengths(b: &mut Bench) {
-    let value = "The quick brown fox jumps over the lazy dog";
-    for n in [41, 256] {
-        let usual = (0..n - 1).map(|i| item(&format!("{} {i}", USUAL_KEYS[i % 10]), value));
-        let tag = tag_of(usual.chain([item("REPLAYGAIN_REFERENCE_LOUDNESS", value)]).collect());
-        let lengths: Vec<usize> = tag.iter().map(|i| i.key().len()).collect();
-        let last = "replaygain_reference_loudness";
-        let (area, file) = (area_of(&tag), reach::serialize(&tag));
-        let mut out = vec![0; area.len() + 100];
-        let mut read = vec![0; 3 * file.len()];
-        let mut done = vec![0; file.len() + 300];
-        let keys = "keys of many lengths";
-        b.row(
-            &format!("get, the last of {n} items, {keys} (Rust: a tag already parsed)"),
-            || tag.get(last),
-            || library::get(&area, n, last.as_bytes()),
-        );
-        b.row(
-            &format!(
-                "no call: a bare walk over {n} items, told where each key ends (Rust: get, {keys}, a tag already parsed)"
-            ),
-            || tag.get(last),
-            || bare_walk(&area, &lengths),
-        );
-        b.row(
-            &format!("get, the last of {n} items, {keys} (both from a file's bytes)"),
-            || read_ape_tag(&file).unwrap().get(last).map(str::len),
-            || {
-                let (count, length) = ape::library::read_ape_tag(&file, &mut read).unwrap().unwrap();
-                library::get(&read[..length], count, last.as_bytes()).map(|v| v.map(<[u8]>::len))
-            },
-        );
-        let mut parsed = tag.clone();
-        b.row(
-            &format!("set, the last of {n} items, {keys} (Rust: a tag already parsed, in place)"),
-            || parsed.set(last, value),
-            || library::set(&area, n, last.as_bytes(), value.as_bytes(), &mut out),
-        );
-        bench_get_indexed(b, &tag, &format!("the last of {n} items, {keys}"), last);
-        bench_set_indexed(b, &tag, &format!("the last of {n} items, {keys}"), n - 1, last, value);
-        let longer = value.repeat(5);
-        bench_set_indexed(b, &tag, &format!("the first of {n} items, {keys}, a longer value"), 0, "title 0", &longer);
-        bench_index(b, &tag, &format!("{n} items, {keys}"));
-        b.row(
-            &format!("set, the last of {n} items, {keys} (both from a file's bytes to a tag's bytes)"),
-            || {
-                let mut tag = read_ape_tag(&file).unwrap();
-                tag.set(last, value);
-                reach::serialize(&tag)
-            },
-            || {
-                let (count, length) = ape::library::read_ape_tag(&file, &mut read).unwrap().unwrap();
-                let (count, length) =
-                    library::set(&read[..length], count, last.as_bytes(), value.as_bytes(), &mut out).unwrap();
-                ape::library::serialize_ape_tag(&out[..length], count, &mut done)
-            },
-        );
-    }
 }
 
 fn bench(b: &mut Bench) {
@@ -1756,96 +1150,93 @@ fn bench(b: &mut Bench) {
     bench_lengths(b);
     let value = "The quick brown fox jumps over the lazy dog";
     let new = "+003,-012,N";
-    for n in [41, 256] {
-        let tag = tag_of((0..n).map(|i| item(&format!("KEY_{i:03}"), value)).collect());
-        let (area, file) = (area_of(&tag), reach::serialize(&tag));
-        let last = format!("key_{:03}", n - 1);
-        let key = last.as_bytes();
-        let mut out = vec![0; area.len() + 100];
-        let mut read = vec![0; 3 * file.len()];
-        let mut done = vec![0; file.len() + 300];
-        b.row(
-            &format!("get, the last of {n} items (Rust: a tag already parsed)"),
-            || tag.get(&last),
-            || library::get(&area, n, key),
-        );
-        b.row(
-            &format!("get, the last of {n} items (both from a file's bytes)"),
-            || read_ape_tag(&file).unwrap().get(&last).map(str::len),
-            || {
-                let (count, length) = ape::library::read_ape_tag(&file, &mut read).unwrap().unwrap();
-                library::get(&read[..length], count, key).map(|v| v.map(<[u8]>::len))
-            },
-        );
-        let mut parsed = tag.clone();
-        b.row(
-            &format!("set, the last of {n} items (Rust: a tag already parsed, in place)"),
-            || parsed.set(&last, new),
-            || library::set(&area, n, key, new.as_bytes(), &mut out),
-        );
-        bench_get_indexed(b, &tag, &format!("the last of {n} items"), &last);
-        bench_set_indexed(b, &tag, &format!("the last of {n} items"), n - 1, &last, new);
-        b.row(
-            &format!("set, the last of {n} items (both from a file's bytes to a tag's bytes)"),
-            || {
-                let mut tag = read_ape_tag(&file).unwrap();
-                tag.set(&last, new);
-                reach::serialize(&tag)
-            },
-            || {
-                let (count, length) = ape::library::read_ape_tag(&file, &mut read).unwrap().unwrap();
-                let (count, length) = library::set(&read[..length], count, key, new.as_bytes(), &mut out).unwrap();
-                ape::library::serialize_ape_tag(&out[..length], count, &mut done)
-            },
-        );
-        let gains = ["-3.500000 dB", "0.987650", "+1.505150 dB", "0.999000", "EBU R128"];
-        let [track_gain, track_peak, album_gain, album_peak, algorithm] = gains.map(|text| Some(text.to_string()));
-        let gain = ApeReplayGain { track_gain, track_peak, album_gain, album_peak, algorithm };
-        let texts = gains.map(str::as_bytes);
-        let mut more = vec![0; area.len() + 300];
-        b.row(
-            &format!("set_replaygain, five texts behind {n} items (Rust: a copy of a tag already parsed)"),
-            || {
-                let mut tag = tag.clone();
-                tag.set_replaygain(&gain);
-                tag
-            },
-            || library::set_replaygain(&area, n, texts, &mut more),
-        );
-        b.row(
-            &format!("set_replaygain, five texts behind {n} items (both from a file's bytes to a tag's bytes)"),
-            || {
-                let mut tag = read_ape_tag(&file).unwrap();
-                tag.set_replaygain(&gain);
-                reach::serialize(&tag)
-            },
-            || {
-                let (count, length) = ape::library::read_ape_tag(&file, &mut read).unwrap().unwrap();
-                let (count, length) = library::set_replaygain(&read[..length], count, texts, &mut more).unwrap();
-                ape::library::serialize_ape_tag(&more[..length], count, &mut done)
-            },
-        );
-        b.row(
-            &format!("remove, the last of {n} items (Rust: a copy of a tag already parsed)"),
-            || {
-                let mut tag = tag.clone();
-                tag.remove(&last);
-                tag
-            },
-            || library::remove(&area, n, key, &mut out),
-        );
-        b.row(
-            &format!("remove, the last of {n} items (both from a file's bytes to a tag's bytes)"),
-            || {
-                let mut tag = read_ape_tag(&file).unwrap();
-                tag.remove(&last);
-                reach::serialize(&tag)
-            },
-            || {
-                let (count, length) = ape::library::read_ape_tag(&file, &mut read).unwrap().unwrap();
-                let (count, length) = library::remove(&read[..length], count, key, &mut out).unwrap();
-                ape::library::serialize_ape_tag(&out[..length], count, &mut done)
-            },
-        );
-    }
+    let n = 41;
+    let tag = tag_of((0..n).map(|i| item(&format!("KEY_{i:03}"), value)).collect());
+    let (area, file) = (area_of(&tag), reach::serialize(&tag));
+    let last = format!("key_{:03}", n - 1);
+    let key = last.as_bytes();
+    let mut out = vec![0; area.len() + 100];
+    let mut read = vec![0; 3 * file.len()];
+    let mut done = vec![0; file.len() + 300];
+    b.row(
+        &format!("get, the last of {n} items (Rust: a tag already parsed)"),
+        || tag.get(&last),
+        || library::get(&area, n, key),
+    );
+    b.row(
+        &format!("get, the last of {n} items (both from a file's bytes)"),
+        || read_ape_tag(&file).unwrap().get(&last).map(str::len),
+        || {
+            let (count, length) = ape::library::read_ape_tag(&file, &mut read).unwrap().unwrap();
+            library::get(&read[..length], count, key).map(|v| v.map(<[u8]>::len))
+        },
+    );
+    let mut parsed = tag.clone();
+    b.row(
+        &format!("set, the last of {n} items (Rust: a tag already parsed, in place)"),
+        || parsed.set(&last, new),
+        || library::set(&area, n, key, new.as_bytes(), &mut out),
+    );
+    b.row(
+        &format!("set, the last of {n} items (both from a file's bytes to a tag's bytes)"),
+        || {
+            let mut tag = read_ape_tag(&file).unwrap();
+            tag.set(&last, new);
+            reach::serialize(&tag)
+        },
+        || {
+            let (count, length) = ape::library::read_ape_tag(&file, &mut read).unwrap().unwrap();
+            let (count, length) = library::set(&read[..length], count, key, new.as_bytes(), &mut out).unwrap();
+            ape::library::serialize_ape_tag(&out[..length], count, &mut done)
+        },
+    );
+    let gains = ["-3.500000 dB", "0.987650", "+1.505150 dB", "0.999000", "EBU R128"];
+    let [track_gain, track_peak, album_gain, album_peak, algorithm] = gains.map(|text| Some(text.to_string()));
+    let gain = ApeReplayGain { track_gain, track_peak, album_gain, album_peak, algorithm };
+    let texts = gains.map(str::as_bytes);
+    let mut more = vec![0; area.len() + 300];
+    b.row(
+        &format!("set_replaygain, five texts behind {n} items (Rust: a copy of a tag already parsed)"),
+        || {
+            let mut tag = tag.clone();
+            tag.set_replaygain(&gain);
+            tag
+        },
+        || library::set_replaygain(&area, n, texts, &mut more),
+    );
+    b.row(
+        &format!("set_replaygain, five texts behind {n} items (both from a file's bytes to a tag's bytes)"),
+        || {
+            let mut tag = read_ape_tag(&file).unwrap();
+            tag.set_replaygain(&gain);
+            reach::serialize(&tag)
+        },
+        || {
+            let (count, length) = ape::library::read_ape_tag(&file, &mut read).unwrap().unwrap();
+            let (count, length) = library::set_replaygain(&read[..length], count, texts, &mut more).unwrap();
+            ape::library::serialize_ape_tag(&more[..length], count, &mut done)
+        },
+    );
+    b.row(
+        &format!("remove, the last of {n} items (Rust: a copy of a tag already parsed)"),
+        || {
+            let mut tag = tag.clone();
+            tag.remove(&last);
+            tag
+        },
+        || library::remove(&area, n, key, &mut out),
+    );
+    b.row(
+        &format!("remove, the last of {n} items (both from a file's bytes to a tag's bytes)"),
+        || {
+            let mut tag = read_ape_tag(&file).unwrap();
+            tag.remove(&last);
+            reach::serialize(&tag)
+        },
+        || {
+            let (count, length) = ape::library::read_ape_tag(&file, &mut read).unwrap().unwrap();
+            let (count, length) = library::remove(&read[..length], count, key, &mut out).unwrap();
+            ape::library::serialize_ape_tag(&out[..length], count, &mut done)
+        },
+    );
 }

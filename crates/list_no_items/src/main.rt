@@ -1,4 +1,0 @@
-// A recorded run of the listing program: a tag of no items.
-fn main() {
-    listing_input::list_input();
-}
