@@ -23,7 +23,7 @@ extern "C" {
 #endif
 
 #define ZIB_FILE_LIMIT 16777216 /* bytes of a file, of an item area and of a tag */
-#define ZIB_ITEM_LIMIT 256      /* items of a tag that is edited */
+#define ZIB_ITEM_LIMIT 41       /* items of a tag that is edited */
 #define ZIB_AREA_LIMIT 32768    /* bytes of the items of a tag that is edited */
 #define ZIB_LIST_LIMIT 16384    /* bytes of a file that is listed */
 #define ZIB_LIST_ROOM 147473    /* bytes that hold every listing */

@@ -28,7 +28,7 @@ use std::fmt;
 /// The most bytes that a file may have, and that a call writes.
 pub const FILE_LIMIT: usize = 16_777_216;
 /// The most items of a tag that is edited.
-pub const ITEM_LIMIT: usize = 256;
+pub const ITEM_LIMIT: usize = 41;
 /// The most bytes that the items of a tag that is edited may have.
 pub const AREA_LIMIT: usize = 32_768;
 /// The most bytes of a file that [`list_tag`] lists.

@@ -11,6 +11,7 @@ use borrow.Author.Tests.{le-leb}
 use Rattle.lists.specs.Bytes.{startsWith}
 use Rattle.lists.specs.Le.{readU32}
 use Rattle.lists.proofs.Numbers.{read-drop}
+use Rattle.replies.specs.Limits.{countLimit}
 use Rattle.frame.specs.Tail.{preamble, id3v1Mark, standsAt, endsWithId3v1, tagStart}
 use Rattle.frame.specs.declared.TagStart.the-variants.{At as StartAt}
 use Rattle.frame.proofs.Tails.{stands-in, stands-before, start-there, start-headed}
@@ -202,7 +203,7 @@ gate-tag front back ts b ok =
       n .size-is,
       n .count-is,
       le-leb 32 (size ts) (omega arith),
-      le-leb (length ts) 256 (ok .few),
+      le-leb (length ts) countLimit (ok .few),
       le-leb (size ts) 32800 (omega (arith, ok .small)),
       parse-area ts (ok .sane) (omega (arith, ok .small)),
       ok .valid,

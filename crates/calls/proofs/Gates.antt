@@ -6,6 +6,7 @@ use mathlib.Core.Option.{Option, none, some}
 use mathlib.Core.List.{List, []}
 use borrow.Author.Tests.{eqb-true, leb-true}
 use Rattle.lists.specs.Choice.{found, isSome}
+use Rattle.replies.specs.Limits.{countLimit}
 use Rattle.items.specs.Items.{Item, parse}
 use Rattle.ape.specs.Tag.{findFooter, versionAt, sizeAt, countAt, areaAt}
 use Rattle.ape.specs.declared.Footer.the-variants.{At}
@@ -32,7 +33,7 @@ module _ (s : List ℕ) (f : ℕ) where
       (c, p, v)
 
   -- each test of the footer
-  pub fit-tests : fit s f ≡ true → (versionAt s f ≡ 2000) × (32 ≤ sizeAt s f) × (hasStart s f ≡ true) × (countAt s f ≤ 256) × (sizeAt s f ≤ 32800)
+  pub fit-tests : fit s f ≡ true → (versionAt s f ≡ 2000) × (32 ≤ sizeAt s f) × (hasStart s f ≡ true) × (countAt s f ≤ countLimit) × (sizeAt s f ≤ 32800)
   unfolding fit
   fit-tests e =
       let z : Bool = countsFooter s f in
@@ -43,4 +44,4 @@ module _ (s : List ℕ) (f : ℕ) where
       let (q, r) = both z (a && (c && d)) p in
       let (b, t) = both a (c && d) r in
       let (m, n) = both c d t in
-      (eqb-true _ 2000 v, leb-true 32 _ q, b, leb-true _ 256 m, leb-true _ 32800 n)
+      (eqb-true _ 2000 v, leb-true 32 _ q, b, leb-true _ countLimit m, leb-true _ 32800 n)

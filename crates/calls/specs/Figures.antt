@@ -30,7 +30,7 @@ use Rattle.values.specs.Undo.{formatUndo, parseUndo}
 use Rattle.values.specs.Stored.{shiftStored, rangeWrapsOut}
 use Rattle.decibels.specs.Gain.{shiftGain}
 use Rattle.items.specs.Items.{Item, areaBytes}
-use Rattle.ape.specs.Tag.{sizeAt, serialize}
+use Rattle.ape.specs.Tag.{sizeAt, serialize, readTag}
 use Rattle.calls.specs.Calls.{Level, setPlan, removePlan, shiftStoredGain, levelPlan, undoPlan}
 
 -- ---- what the figures are about
@@ -113,6 +113,14 @@ pub record Figures : Type 0 where
 abbrev pub version1000 : List ℕ
 version1000 = preamble ++ (u32le 1000 ++ (u32le 32 ++ (u32le 0 ++ (u32le 0 ++ replicate 8 0))))
 
+-- so many items, all alike
+abbrev pub many : ℕ → List Item
+many n = replicate n (item (ascii "AB") (ascii "c"))
+
+-- two items that unequal steps drop
+abbrev pub undonePair : List Item
+undonePair = item (ascii "REPLAYGAIN_TRACK_GAIN") (ascii "-3.500000 dB") ∷ item (ascii "Mp3gain_Album_MinMax") (ascii "010,200") ∷ []
+
 -- a tag of a peak, a range and an undo item, its keys as someone spelled them
 abbrev pub peaked : List Item
 peaked = item (ascii "replaygain_track_peak") (ascii "0.9") ∷ item (ascii "Mp3gain_MinMax") (ascii "010,200") ∷ item (ascii "MP3GAIN_undo") (ascii "+001,-002,W") ∷ []
@@ -128,13 +136,22 @@ pub record Examples : Type 0 where
   -- 5: 75 bytes for a 76-byte tag; 76 are enough, and the key is spelled in upper case
   pub five : setPlan [] (ascii "ab") (ascii "c") 75 ≡ no NoRoom
   pub five-not : setPlan [] (ascii "ab") (ascii "c") 76 ≡ yes (serialize ab)
-  -- 6: a 257th item
-  pub six : setPlan (serialize (replicate 256 (item (ascii "AB") (ascii "c")))) (ascii "CD") (ascii "e") 10000 ≡ no TagTooLarge
+  -- 6: a 42nd item; a 41st is within the limit
+  pub six : setPlan (serialize (many 41)) (ascii "CD") (ascii "e") 10000 ≡ no TagTooLarge
+  pub six-not : setPlan (serialize (many 40)) (ascii "cd") (ascii "e") 10000 ≡ yes (serialize (many 40 ++ (item (ascii "CD") (ascii "e") ∷ [])))
+  -- 6: level sets two items; where it drops two of 41 it is accepted
+  pub six-level : levelPlan (serialize (many 40)) (10 ∷ []) [] fives 10000 ≡ no TagTooLarge
+  pub six-level-not : levelPlan (serialize (many 39 ++ undonePair)) (10 ∷ []) [] (by (pos 1) (pos 2) Saturating) 10000
+      ≡ yes (record { out = serialize (many 39 ++ levelPair (ascii "-001,-002,N") (ascii "011,011")); left = 11 ∷ []; right = []; peaks = 0 })
   -- 7: left list empty
   pub seven : levelPlan [] [] (10 ∷ []) fives 1000 ≡ no NoLeftGains
   -- 8: footer version 1000
   pub eight : removePlan version1000 (ascii "AB") 1000 ≡ no NotEditable
   pub eight-utf8 : removePlan (serialize (item (ascii "AB") (0xFF ∷ []) ∷ [])) (ascii "CD") 1000 ≡ no NotEditable
+  -- 8: a file of 42 items, for remove and undo too; it is read as before
+  pub eight-remove : removePlan (serialize (many 42)) (ascii "AB") 10000 ≡ no NotEditable
+  pub eight-undo : undoPlan (serialize (many 41 ++ undoItem (ascii "+003,+003,N"))) (10 ∷ []) [] 10000 ≡ no NotEditable
+  pub eight-read : readTag (serialize (many 42)) ≡ some (many 42)
   -- every match is removed, and nothing is written for no items
   pub removed : removePlan (0x11 ∷ serialize (item (ascii "ab") (ascii "1") ∷ item (ascii "CD") (ascii "2") ∷ item (ascii "AB") (ascii "3") ∷ [])) (ascii "aB") 1000
       ≡ yes (0x11 ∷ serialize (item (ascii "CD") (ascii "2") ∷ []))

@@ -11,6 +11,7 @@ use Rattle.lists.specs.Choice.{provided, isSome}
 use Rattle.lists.specs.Le.{readU32}
 use Rattle.lists.specs.Write.{part}
 use Rattle.lists.proofs.Places.{length-part}
+use Rattle.replies.specs.Limits.{countLimit}
 use Rattle.frame.specs.Tail.{reach, startOf, tagStart}
 use Rattle.frame.specs.declared.TagStart.{TagStart}
 use Rattle.frame.specs.declared.TagStart.the-variants.{At as StartAt, Nowhere as NoStart}
@@ -77,11 +78,11 @@ module _ (s : List ℕ) (f : ℕ) (at : findFooter s ≡ At f) where
       no-start e = unfit (rw (eq-eqb _ _ v, le-leb _ _ z, e))
 
       module _ (a : ℕ) (b : tagStart s f ≡ StartAt a) where
-        pub many-items : 256 < countAt s f → Unfit ≡ gateOf s
+        pub many-items : countLimit < countAt s f → Unfit ≡ gateOf s
         unfolding fit
         many-items h = unfit (rw (eq-eqb _ _ v, le-leb _ _ z, b, lt-leb _ _ h))
 
-        module _ (n : countAt s f ≤ 256) where
+        module _ (n : countAt s f ≤ countLimit) where
           pub many-bytes : 32800 < sizeAt s f → Unfit ≡ gateOf s
           unfolding fit
           many-bytes h = unfit (rw (eq-eqb _ _ v, le-leb _ _ z, b, le-leb _ _ n, lt-leb _ _ h))

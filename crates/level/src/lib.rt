@@ -5,6 +5,7 @@ ghost use Prim.Native.Nat.{_≤_, _+_, _-_, _*_};
 ghost use lib.ListN.{length};
 ghost use Rattle.lists.specs.Choice.{isSome};
 ghost use Rattle.lists.specs.Write.{over};
+ghost use Rattle.replies.specs.Limits.{countLimit, areaLimit};
 ghost use Rattle.items.specs.Items.{parse, itemsIn};
 ghost use Rattle.items.specs.Answers.{isThere, valueOf};
 ghost use Rattle.ape_write.specs.Answers.{writtenBytes};
@@ -22,6 +23,8 @@ use items::Found;
 use replies::Refusal;
 use values::Range;
 use values::UndoValues;
+
+const SCRATCH: usize = replies::AREA_LIMIT + 32 * replies::COUNT_LIMIT + 76;
 
 // How long the new file is, and how many peak items its tag holds.
 pub enum LevelAnswer {
@@ -95,6 +98,13 @@ fn filed(file: &[u8], area: &[u8], count: usize, out: &mut [u8]) -> LevelAnswer
         Written::Done(length) => LevelAnswer::Done { length, peaks },
         Written::Refused(r) => LevelAnswer::Refused(r),
     }
+}
+
+// Room for the items that level makes: those of a file that is fit for editing, each of which may grow by 32 bytes, and two more.
+fn scratch() -> [u8; SCRATCH]
+    ensures { λ r. ⌜ areaLimit + 32 * countLimit + 76 ≡ length r ⌝ }
+{
+    [0u8; SCRATCH]
 }
 
 // The file with the items that level leaves, which are made in `work` and `new`.
@@ -171,8 +181,8 @@ fn write_file(
             out,
         );
     }
-    let mut work = edit::scratch();
-    let mut new = edit::scratch();
+    let mut work = scratch();
+    let mut new = scratch();
     write_file_in(
         file,
         start,

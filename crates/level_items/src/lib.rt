@@ -5,7 +5,7 @@ ghost use Prim.Native.Nat.{_≤_, _+_, _*_};
 ghost use lib.ListN.{length};
 ghost use Rattle.lists.specs.Choice.{isSome};
 ghost use Rattle.lists.specs.Write.{over};
-ghost use Rattle.replies.specs.Limits.{fileLimit};
+ghost use Rattle.replies.specs.Limits.{fileLimit, countLimit};
 ghost use Rattle.keys.specs.Keys.{undoKey, minmaxKey};
 ghost use Rattle.values.specs.Undo.{formatUndo};
 ghost use Rattle.values.specs.Range.{formatRange};
@@ -111,7 +111,7 @@ pub fn write_items(
     work: &mut [u8],
     out: &mut [u8],
 ) -> Measure
-    requires { ⌜ (isSome (parse count (now area)) ≡ true) × (count ≤ 256) × (length (now area) ≤ 32768)
+    requires { ⌜ (isSome (parse count (now area)) ≡ true) × (count ≤ countLimit) × (length (now area) ≤ 32768)
         × (length (now area) + 32 * count + 76 ≤ length (now work)) × (length (now area) + 32 * count + 76 ≤ length (now out)) ⌝ }
     ensures { λ r. ⌜ (let asked : Level = record { left = left .0; right = right .0; mode = mode } in
         (Wrote (rangedItems asked undo range (itemsIn count (now (area .entry)))) (over (areaBytes (shiftedItems asked (itemsIn count (now (area .entry))))) (now (out .entry))) r (now (out .exit)))

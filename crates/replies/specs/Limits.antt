@@ -1,4 +1,4 @@
--- The limits of document 01's table of replies.
+-- The limits of document 01's table of replies; that of the items is document 02's (request 11).
 use Prim.Native.Nat.{ℕ}
 
 -- refusal 1, and 5 for a result
@@ -11,7 +11,7 @@ listingLimit = 16384
 
 -- refusal 6: items of a new tag
 abbrev pub countLimit : ℕ
-countLimit = 256
+countLimit = 41
 
 -- refusal 6: item bytes of a new tag
 abbrev pub areaLimit : ℕ

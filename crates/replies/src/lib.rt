@@ -9,7 +9,7 @@ pub const FILE_LIMIT: usize = 16_777_216;
 pub const LISTING_LIMIT: usize = 16_384;
 
 // The most items of an edited tag, and the most bytes that they have.
-pub const COUNT_LIMIT: usize = 256;
+pub const COUNT_LIMIT: usize = 41;
 
 pub const AREA_LIMIT: usize = 32_768;
 

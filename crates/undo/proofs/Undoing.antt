@@ -8,6 +8,7 @@ use mathlib.Core.List.{List, []}
 use lib.ListN.{length}
 use borrow.Author.Tests.{le-leb, lt-leb}
 use Rattle.lists.specs.Write.{part}
+use Rattle.replies.specs.Limits.{countLimit}
 use Rattle.replies.specs.Refusal.{no, yes}
 use Rattle.replies.specs.declared.Refusal.{Refusal}
 use Rattle.replies.specs.declared.Refusal.the-variants.{FileTooLong, NoLeftGains, NotEditable, NoUndo, NoRoom}
@@ -66,7 +67,7 @@ module _ (file left right : List ℕ) (room : ℕ) where
 
 -- what dropping the eight keys answers, where the file is fit for editing: only room can be lacking
 module _ {file : List ℕ} {start end count : ℕ} (p : Passed file start end count) (room : ℕ) where
-  few : length (itemsOf file) ≤ 256
+  few : length (itemsOf file) ≤ countLimit
   few = omega (arith, ap length (p .items), count-items count (part start end file) (p .good), p .few)
 
   dropped : tagPlan file (without isMp3gainKey (itemsOf file)) room ≡ roomPlan file (without isMp3gainKey (itemsOf file)) room

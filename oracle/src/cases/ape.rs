@@ -314,7 +314,7 @@ pub fn edge_files() -> Vec<Vec<u8>> {
             footers.push(block(size, 1, flags, 2000));
         }
     }
-    footers.extend([0, 2, 256, 257, u32::MAX].map(|count| block(exact, count, 0, 2000)));
+    footers.extend([0, 2, 41, 42, 256, u32::MAX].map(|count| block(exact, count, 0, 2000)));
     footers.extend([0x2000_0000, 0x7FFF_FFFF, 0xA000_0000, u32::MAX].map(|flags| block(exact, 1, flags, 2000)));
     footers.extend([0, 1000, 1999, 2001, u32::MAX].map(|version| block(exact, 1, 0, version)));
     for footer in footers {
@@ -339,14 +339,14 @@ pub fn edge_files() -> Vec<Vec<u8>> {
         areas.push(([&area, &item[..]].concat(), 2));
         areas.push((item, 1));
     }
-    areas.extend([255, 256, 257].map(|count| (item_bytes(0, 0, b"", b"").repeat(count as usize), count)));
+    areas.extend([40, 41, 42, 256].map(|count| (item_bytes(0, 0, b"", b"").repeat(count as usize), count)));
     for (area, count) in areas {
         files.push([b"audio", &area[..], &block(area.len() as u32 + 32, count, 0, 2000)].concat());
     }
     files
 }
 
-fn both(c: &mut Compare, file: &[u8], tags: &[ApeTag]) {
+pub fn both(c: &mut Compare, file: &[u8], tags: &[ApeTag]) {
     c.bytes("find_ape_footer", file, |s| Ok(find_ape_footer(s)), library::find_ape_footer);
     c.bytes("read_ape_tag", file, published_read, our_read);
     c.bytes("split_ape_tag", file, published_split, our_split);
@@ -527,6 +527,10 @@ fn record(r: &mut Record) {
         let tag = &tags[r.rng.below(tags.len())];
         r.line(&words(&[&"replace", &hex(file), &tag.len(), &hex(&area_of(tag)), &hex(&reach::replace(file, tag))]));
     }
+    // More items than an edited tag may have.
+    let many = reach::replace(b"audio", &tag_of((0..42).map(|i| item(&format!("KEY_{i}"), "v")).collect()));
+    let (count, area) = published_read(&many).unwrap();
+    r.line(&words(&[&"read", &hex(&many), &count, &hex(&area)]));
     for tag in &tags {
         r.line(&words(&[&"serialize", &tag.len(), &hex(&area_of(tag)), &hex(&reach::serialize(tag))]));
     }

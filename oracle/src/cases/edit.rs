@@ -5,8 +5,8 @@
 //! accepted call does to the tag, the file and the gains is the published Rust's.
 
 use super::ape::{area_of, edge_files, is_area, item, random_file, tag_of, written};
-use super::{level, shift, Case};
-use crate::ape::{find_ape_footer, parse_undo_values, parse_undo_wrap, reach, read_ape_tag, ApeTag};
+use super::{ape, level, listing, shift, Case};
+use crate::ape::{find_ape_footer, parse_undo_values, parse_undo_wrap, reach, read_ape_tag, ApeItem, ApeTag};
 use crate::frame::{adjust_gain_value, read_u32_le, GainMode};
 use crate::tools::{hex, Bench, Compare, Record, Rng};
 
@@ -99,6 +99,8 @@ pub mod library {
 }
 
 pub const LIMIT: usize = 16_777_216;
+/// The most items of an edited tag: document 02's request 11.
+pub const ITEMS: usize = 41;
 pub const EIGHT: [&str; 8] = [
     "MP3GAIN_UNDO",
     "MP3GAIN_MINMAX",
@@ -112,7 +114,7 @@ pub const EIGHT: [&str; 8] = [
 
 /// Document 01's limits of refusal 6.
 fn fits(tag: &ApeTag) -> bool {
-    tag.len() <= 256 && area_of(tag).len() <= 32_768
+    tag.len() <= ITEMS && area_of(tag).len() <= 32_768
 }
 
 /// Document 01's editing gate: the items of a file that is fit for editing.
@@ -124,7 +126,7 @@ pub fn gate(file: &[u8]) -> Option<ApeTag> {
         return None;
     }
     let area = &file[footer + 32 - size..footer];
-    if count > 256 || area.len() > 32_768 || !is_area(area, count) {
+    if count > ITEMS || area.len() > 32_768 || !is_area(area, count) {
         return None;
     }
     let mut items = Vec::new();
@@ -334,6 +336,27 @@ pub fn around(rng: &mut Rng, tag: &ApeTag) -> Vec<u8> {
     file
 }
 
+/// So many items, each with its own key.
+pub fn some_items(n: usize) -> Vec<ApeItem> {
+    (0..n).map(|i| item(&format!("KEY_{i}"), "v")).collect()
+}
+
+/// What takes no notice of the gate: reading, splitting and replacement, and the listing of printable items.
+fn as_before(c: &mut Compare, file: &[u8]) {
+    ape::both(c, file, &[tag_of(some_items(2))]);
+    let read = |s: &[u8]| {
+        let tag = read_ape_tag(s)?;
+        let lines = tag.iter().map(|i| format!("{}={}\n", i.key(), i.value()));
+        Some(format!("items={}\n{}", tag.len(), lines.collect::<String>()))
+    };
+    let listed = |s: &[u8]| {
+        let mut text = Box::new([0; listing::library::ROOM]);
+        let n = listing::library::list_tag(s, &mut text);
+        Some(String::from_utf8_lossy(&text[..n]).into_owned()).filter(|t| t != "items=none\n")
+    };
+    c.bytes("list_tag", file, read, listed);
+}
+
 fn edits(c: &mut Compare, file: &[u8], key: &[u8], value: &[u8]) {
     let room = |s: &[u8]| s.len() + key.len() + value.len() + 200;
     c.bytes("gate", file, gate_places, library::gate);
@@ -401,12 +424,24 @@ fn compare(c: &mut Compare) {
         }
     }
     undoes(c, &good, b"", b"\x05");
-    // Refusal 6, from both sides: 255 to 257 items, and 32,767 to 32,769 bytes of items.
-    for n in 254..=257 {
-        let file = reach::replace(b"audio", &tag_of((0..n).map(|i| item(&format!("KEY_{i}"), "v")).collect()));
-        edits(c, &file, b"ONE_MORE", b"v");
+    // Refusal 6, from both sides: 39 to 42 items, with an undo item and without, and 32,767 to 32,769 bytes of items.
+    for n in ITEMS - 2..=ITEMS + 1 {
+        for last in ["KEY_0", "MP3GAIN_UNDO"] {
+            let mut items = some_items(n - 1);
+            items.push(item(last, "+003,-002,W"));
+            let file = reach::replace(b"audio", &tag_of(items));
+            edits(c, &file, b"ONE_MORE", b"v");
+            edits(c, &file, b"key_0", b"");
+            undoes(c, &file, b"\x07", b"");
+        }
+    }
+    // More items than an edited tag may have are read, listed and replaced as before, and not edited.
+    for n in [ITEMS + 1, 256] {
+        let file = reach::replace(b"audio", &tag_of(some_items(n)));
+        assert!(gate(&file).is_none());
         edits(c, &file, b"key_0", b"");
         undoes(c, &file, b"\x07", b"");
+        as_before(c, &file);
     }
     for n in 32_740..=32_775 {
         let file = reach::replace(b"audio", &tag_of(vec![item("AB", &"v".repeat(n))]));
@@ -444,25 +479,34 @@ fn record(r: &mut Record) {
         Ok(bytes) => ("0".to_string(), hex(&bytes)),
         Err(n) => (n.to_string(), "-".to_string()),
     };
+    let lines = |r: &mut Record, file: &[u8], key: &[u8], value: &[u8], left: &[u8], right: &[u8]| {
+        let (f, k, v) = (hex(file), hex(key), hex(value));
+        let (n, bytes) = reply(published_set(file, key, value));
+        r.line(&["set".into(), f.clone(), k.clone(), v, n, bytes]);
+        let (n, bytes) = reply(published_remove(file, key));
+        r.line(&["remove".into(), f.clone(), k, n, bytes]);
+        if in_domain(file) {
+            let start = ["undo".into(), f, hex(left), hex(right)];
+            let end = match published_undo(file, left, right) {
+                Ok(u) => ["0".into(), hex(&u.file), hex(&u.left), hex(&u.right)],
+                Err(n) => [n.to_string(), "-".into(), hex(left), hex(right)],
+            };
+            r.line(&[start, end].concat());
+        }
+    };
     for _ in 0..220 {
         let file = edited_file(&mut r.rng);
         let key = random_key(&mut r.rng).into_bytes();
         let value = random_value(&mut r.rng).into_bytes();
-        let (f, k, v) = (hex(&file), hex(&key), hex(&value));
-        let (n, bytes) = reply(published_set(&file, &key, &value));
-        r.line(&["set".into(), f.clone(), k.clone(), v, n, bytes]);
-        let (n, bytes) = reply(published_remove(&file, &key));
-        r.line(&["remove".into(), f.clone(), k, n, bytes]);
         let (l, m) = (r.rng.below(6), r.rng.below(4));
         let (left, right) = (r.rng.bytes(l), r.rng.bytes(m));
-        if in_domain(&file) {
-            let start = ["undo".into(), f, hex(&left), hex(&right)];
-            let end = match published_undo(&file, &left, &right) {
-                Ok(u) => ["0".into(), hex(&u.file), hex(&u.left), hex(&u.right)],
-                Err(n) => [n.to_string(), "-".into(), hex(&left), hex(&right)],
-            };
-            r.line(&[start, end].concat());
-        }
+        lines(r, &file, &key, &value, &left, &right);
+    }
+    // The limit of the items, from both sides.
+    for n in ITEMS - 1..=ITEMS + 1 {
+        let mut items = some_items(n - 1);
+        items.push(item("MP3GAIN_UNDO", "+003,-002,W"));
+        lines(r, &reach::replace(b"audio", &tag_of(items)), b"ONE_MORE", b"v", b"\x07", b"\x80");
     }
     shift::record(r);
     level::record(r);

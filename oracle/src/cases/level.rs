@@ -4,7 +4,7 @@
 //! what they can: the stored undo accumulated, stored values shifted, items set and removed, gains adjusted, the tag replaced.
 
 use super::ape::{area_of, item, random_file, tag_of};
-use super::edit::{around, finish, gate, in_domain, in_rooms, moved, Levelled, LIMIT};
+use super::edit::{around, finish, gate, in_domain, in_rooms, moved, some_items, Levelled, ITEMS, LIMIT};
 use super::shift::{flag, full_tag, shifted, some_tag};
 use super::values::{any_i32, is_peak_key, nearly, turn, ENDS, FLAGS, MINMAX, NUMBERS, TRACK_GAIN};
 use crate::ape::{accumulate_undo, format_undo_value, parse_undo_wrap, reach, read_ape_tag, UNDONE_KEYS};
@@ -173,9 +173,9 @@ pub fn some_gains(rng: &mut Rng, most: usize) -> Vec<u8> {
 }
 
 /// A file that every test of level but the named ones passes, where the flag is N, the left gains are there and the steps are small.
-/// 8: version 1000. 9: the stored flag is W. 11: a stored number at its end. 6: 256 items, and MINMAX to come.
+/// 8: version 1000. 9: the stored flag is W. 11: a stored number at its end. 6: 41 items, and MINMAX to come.
 fn refused_by(eight: bool, nine: bool, eleven: bool, six: bool) -> Vec<u8> {
-    let mut items: Vec<_> = (0..if six { 255 } else { 2 }).map(|i| item(&format!("{i:02X}"), "")).collect();
+    let mut items: Vec<_> = (0..if six { ITEMS - 1 } else { 2 }).map(|i| item(&format!("{i:02X}"), "")).collect();
     items.push(item(UNDO, &format!("{},+000,{}", if eleven { "+32767" } else { "+003" }, flag(nine))));
     let mut file = reach::replace(b"audio", &tag_of(items));
     if eight {
@@ -258,7 +258,7 @@ pub fn compare(c: &mut Compare) {
         }
     }
     // Refusal 6, from both sides: the items of the finished tag, and their bytes, which a shift makes more and a drop fewer.
-    for n in 253..=257 {
+    for n in ITEMS - 3..=ITEMS + 1 {
         let mut items: Vec<_> = (4..n).map(|i| item(&format!("KEY_{i}"), "v")).collect();
         for kinds in 0..16 {
             items.truncate(n - 4);
@@ -297,7 +297,7 @@ pub fn compare(c: &mut Compare) {
         both(c, &file[..n], left, right, by(1, 2, false));
     }
     both(c, &file, &[], right, by(256, 2, false));
-    let many = reach::serialize(&tag_of((0..256).map(|i| item(&format!("KEY_{i}"), "v")).collect()));
+    let many = reach::serialize(&tag_of(some_items(ITEMS)));
     both(c, &[&file[..LIMIT - many.len()], &many].concat(), left, right, by(1, 2, false));
 }
 
@@ -337,6 +337,14 @@ pub fn record(r: &mut Record) {
     let need = published(&file, left, right, by(1, 2, false)).unwrap().unwrap().file.len();
     for room in [0, need - 1, need, need + 1] {
         line(r, &file, left, right, by(1, 2, false), room);
+    }
+    // Level sets two items: 39 leave room for them, 40 and 41 do not unless two are dropped, and 42 are not edited.
+    for n in ITEMS - 2..=ITEMS + 1 {
+        for dropped in [0, 2] {
+            let mut items = some_items(n - dropped);
+            items.extend(UNDONE_KEYS[..dropped].iter().map(|key| item(key, "v")));
+            line(r, &reach::replace(b"audio", &tag_of(items)), left, right, by(1, 2, false), 4096);
+        }
     }
     let full = reach::replace(b"audio", &full_tag());
     for (x, y) in [(0, 0), (5, 5), (6, 6), (-5, -5), (-6, -6), (255, 255), (-255, -255), (5, 6), (0, 256), (-256, 0)] {

@@ -5,7 +5,7 @@
 
 use super::ape::{item, tag_of};
 use super::edit::library::{remove_ape_item, set_ape_item, undo};
-use super::edit::{gate, in_room, published_remove, published_set, Levelled, EIGHT};
+use super::edit::{gate, in_room, published_remove, published_set, Levelled, EIGHT, ITEMS};
 use super::level::{self, some_gains, Level};
 use super::Case;
 use crate::ape::{reach, ApeTag};
@@ -218,7 +218,7 @@ fn settled_file(rng: &mut Rng) -> Vec<u8> {
             }
         }
         let n = match rng.below(200) {
-            0 => 250 + rng.below(7),
+            0 => ITEMS - 5 + rng.below(6),
             _ => rng.pick(&[0, 0, 1, 2, 4]),
         };
         let mut items: Vec<_> = (0..n).map(|_| item(rng.pick(&KEYS), rng.pick(&TEXTS))).collect();

@@ -9,6 +9,7 @@ use borrow.Author.Tests.{not-true, not-false}
 use lib.ListN.{length}
 use Rattle.lists.specs.Choice.{provided, isSome}
 use Rattle.lists.specs.Write.{part}
+use Rattle.replies.specs.Limits.{countLimit}
 use Rattle.frame.specs.Tail.{tagStart}
 use Rattle.frame.specs.declared.TagStart.the-variants.{At as StartAt}
 use Rattle.items.specs.Items.{parse}
@@ -66,7 +67,7 @@ returns-5 c =
     many-items (k .before .before .before .before .before .args .file .now) (k .before .found .given .0 .0) (here k) (version (e .before .before)) (counted e) (b .enum-told2 .given .0 .0) (begun b) (omega (arith, c .before .read-u32-le3 .ensures, c .if3 .taken))
 
 -- and has not too many items
-few : (c : tie.Else3) → countAt (c .before .before .before .before .before .before .before .before .before .before .before .before .before .before .args .file .now) (c .before .before .before .before .before .before .before .before .before .before .found .given .0 .0) ≤ 256
+few : (c : tie.Else3) → countAt (c .before .before .before .before .before .before .before .before .before .before .before .before .before .before .args .file .now) (c .before .before .before .before .before .before .before .before .before .before .found .given .0 .0) ≤ countLimit
 few c = omega (arith, c .before .read-u32-le3 .ensures, c .if3 .left)
 
 returns-6 : tie.Need-returns-6

@@ -2,6 +2,7 @@
 use Prim.Native.Nat.{_+_, _-_, _*_, _≤_}
 use native.Mathlib.Omega.{arith}
 use borrow.Author.Needs.{needs}
+use Rattle.replies.specs.Limits.{countLimit, areaLimit}
 use Rattle.level.proofs.write_file.Statement.{statement}
 use Rattle.level.proofs.write_file.Tie as tie
 
@@ -14,7 +15,7 @@ in-small c κs =
 in-any : tie.Need-write-file-in-requires-2
 in-any c κs =
     let b = c .before .before .before .before .before .before .before .before in
-    let h : b .args .end - b .args .start + 32 * b .args .count ≤ 40960 = omega (arith, b .pre .0 .short, b .pre .0 .few) in
+    let h : b .args .end - b .args .start + 32 * b .args .count ≤ areaLimit + 32 * countLimit = omega (arith, b .pre .0 .short, b .pre .0 .few) in
     (b .pre .0, b .pre .1, omega (arith, h, c .before .before .before .before .scratch .ensures), omega (arith, h, c .before .before .before .scratch2 .ensures))
 
 pub write-file-spec : {M : Type 1} → statement M
