@@ -206,8 +206,8 @@ uint32_t zib_format_minmax(uint8_t least, uint8_t greatest, uint8_t *out, size_t
 /* Answers whether an item is a range, MP3GAIN_MINMAX or MP3GAIN_ALBUM_MINMAX, and one of its numbers would leave 0..255. */
 bool zib_range_wraps_out(const uint8_t *key, size_t key_len, const uint8_t *value, size_t value_len, int32_t steps);
 
-/* Gives steps as decibels, exactly: `minus` is 1 below zero, `millionths` are whole millionths of a decibel, and `rest` counts the
- * thousand-millionths of one millionth that are left over. */
+/* Gives steps as decibels, exactly: `minus` is 1 below zero, `millionths` are whole millionths of a decibel, and `rest` is what
+ * is left over, in units of 10^-15 dB. */
 uint32_t zib_steps_to_db(int32_t steps, uint32_t *minus, uint64_t *millionths, uint64_t *rest);
 
 /* Moves one stored value by so many steps: `moved` is 1 and the new text, of at most 32 bytes, goes to `out`, or `moved` and `written` are

@@ -725,7 +725,7 @@ pub struct Decibels {
     pub minus: bool,
     /// Whole millionths of a decibel.
     pub millionths: u64,
-    /// The thousand-millionths of one millionth that are left over, below 1,000,000,000.
+    /// What is left over, in units of 10^-15 dB: below 1,000,000,000.
     pub rest: u64,
 }
 

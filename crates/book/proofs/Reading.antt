@@ -7,12 +7,12 @@ use mathlib.Core.Option.{Option, none, some}
 use mathlib.Core.List.{List, [], _∷_, _++_, append-assoc, append-nil}
 use lib.ListN.{length, take, drop, length-append}
 use lib.Seq.{drop-append-seam, take-append-seam, take-at, drop-at}
-use borrow.Author.Tests.{le-leb}
+use borrow.Author.Tests.{le-leb, eq-eqb}
 use Rattle.lists.specs.Bytes.{startsWith}
 use Rattle.lists.specs.Le.{readU32}
 use Rattle.lists.proofs.Numbers.{read-drop}
 use Rattle.replies.specs.Limits.{countLimit}
-use Rattle.frame.specs.Tail.{preamble, id3v1Mark, standsAt, endsWithId3v1, tagStart}
+use Rattle.frame.specs.Tail.{preamble, id3v1Mark, standsAt, endsWithId3v1, hasHeader, tagStart}
 use Rattle.frame.specs.declared.TagStart.the-variants.{At as StartAt}
 use Rattle.frame.proofs.Tails.{stands-in, stands-before, start-there, start-headed}
 use Rattle.utf8.specs.Utf8.{valid}
@@ -23,7 +23,7 @@ use Rattle.ape.specs.Tag.{blockBytes, headerFlags, footerFlags, tagBytes, seria
 use Rattle.ape.specs.declared.Footer.{Footer}
 use Rattle.ape.specs.declared.Footer.the-variants.{At, Nowhere}
 use Rattle.ape.proofs.Files.{length-block}
-use Rattle.calls.specs.Gate.{fit, allValid, gateItems, passesGate, itemsOf}
+use Rattle.calls.specs.Gate.{headerAt, fit, allValid, gateItems, passesGate, itemsOf}
 use Rattle.calls.proofs.Lists.{both}
 use Rattle.book.proofs.Sound.{Back, bare, id3, Good, Sound}
 
@@ -141,6 +141,18 @@ module _ (front back : List ℕ) (ts : List Item) where
       rw (z, p, drop-at (front ++ h) (areaBytes ts ++ (f ++ back)) (length front + size ts + 32 - size ts) (simp (length-append, length-block) (omega arith)))
       (take-at (areaBytes ts) (f ++ back) (size ts - 32) (omega arith))
 
+  -- the header that the writer puts there
+  header-at : size ts < 4294967296 → length ts < 4294967296 → headerAt file (length front + size ts) (length front) ≡ true
+  unfolding headerAt tagBytes file
+  header-at hz hn =
+      let h : List ℕ = blockBytes (size ts) (length ts) headerFlags in
+      let r : List ℕ = areaBytes ts ++ (blockBytes (size ts) (length ts) footerFlags ++ back) in
+      let p : file ≡ front ++ (h ++ r) = simp append-assoc in
+      let n = numbers hz hn in
+      let m : Numbers file (length front) (size ts) (length ts) headerFlags = rw p (read-foot front r (size ts) (length ts) headerFlags hz hn (omega arith)) in
+      let q : startsWith preamble (drop (length front) file) ≡ true = rw (p, drop-append-seam) (unfold blockBytes startsWith in refl) in
+      rw (q, m .version-is, m .size-is, m .count-is, m .flags-are, n .size-is, n .count-is, eq-eqb (size ts) (size ts) refl, eq-eqb (length ts) (length ts) refl)
+
 -- where the footer of a book's file stands
 abbrev pub footerOf : List ℕ → List Item → Footer
 footerOf front [] = Nowhere
@@ -205,6 +217,8 @@ gate-tag front back ts b ok =
       le-leb 32 (size ts) (omega arith),
       le-leb (length ts) countLimit (ok .few),
       le-leb (size ts) 32800 (omega (arith, ok .small)),
+      n .flags-are,
+      header-at front back ts hz hn,
       parse-area ts (ok .sane) (omega (arith, ok .small)),
       ok .valid,
     )
@@ -213,6 +227,32 @@ pub law-gate : (front : List ℕ) (ts : List Item) (back : List ℕ) → Sound f
 unfolding gateItems fileOf serialize
 law-gate front [] back s = rw (find-none front back (s .behind) (s .no-footer) (s .no-id3))
 law-gate front (t ∷ ts) back s = gate-tag front back (t ∷ ts) (s .behind) (s .good)
+
+-- what a footer says with its flag bit 31: the tag starts in the file, and its header stands there
+pub record Headed (s : List ℕ) (f : ℕ) : Type 0 where
+  pub bit : hasHeader (readU32 s (f + 20)) ≡ true
+  pub start : ℕ
+  pub starts : tagStart s f ≡ StartAt start
+  pub header : headerAt s f start ≡ true
+
+-- the footer of a sound book's file says so, and the writer put the header there
+headed-tag : (front back : List ℕ) (ts : List Item) → Good ts → Headed (front ++ (tagBytes ts ++ back)) (length front + size ts)
+unfolding file
+headed-tag front back ts ok =
+    let hz : size ts < 4294967296 = omega (arith, ok .small) in
+    let hn : length ts < 4294967296 = omega (arith, ok .few) in
+    let n = numbers front back ts hz hn in
+    record { bit = rw (n .flags-are); start = length front; starts = start-at front back ts hz hn; header = header-at front back ts hz hn }
+
+pub law-header : (front : List ℕ) (ts : List Item) (back : List ℕ) (f : ℕ) → Sound front ts back → findFooter (fileOf front ts back) ≡ At f → Headed (fileOf front ts back) f
+unfolding fileOf serialize
+law-header front [] back f s e =
+    let x : Nowhere ≡ At f = sym (find-none front back (s .behind) (s .no-footer) (s .no-id3)) ∙ e in
+    absurd (let z : _≡_ {A = ℕ} 0 1 = cc in omega arith)
+law-header front (t ∷ ts) back f s e =
+    let x : At (length front + size (t ∷ ts)) ≡ At f = sym (law-find front (t ∷ ts) back s) ∙ e in
+    let y : length front + size (t ∷ ts) ≡ f = cc in
+    rw (← y) (headed-tag front back (t ∷ ts) (s .good))
 
 pub law-passes : (front : List ℕ) (ts : List Item) (back : List ℕ) → Sound front ts back → passesGate (fileOf front ts back) ≡ true
 unfolding passesGate

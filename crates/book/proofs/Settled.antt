@@ -30,7 +30,7 @@ use Rattle.book.specs.Book.{settled, Book, bookOf, bookFile}
 use Rattle.calls.proofs.Lists.{both}
 use Rattle.calls.proofs.Gates.{gate-footer, fit-tests}
 use Rattle.book.proofs.Sound.{Back, bare, id3, Good, Sound}
-use Rattle.book.proofs.Reading.{law-split, law-gate, law-passes, law-items, law-replaced, law-read, asRead}
+use Rattle.book.proofs.Reading.{law-split, law-gate, law-passes, law-items, law-replaced, law-read, asRead, Headed, law-header}
 
 -- ---- where a file is cut
 
@@ -353,3 +353,11 @@ settled-exactly s = (
   λ e. record { book = bookOf s; sound = settled-sound s e; file = sym (settled-book s e) },
   λ x. rw (x .file) (sound-settled _ _ _ (x .sound)),
 )
+
+-- a settled file with a footer has bit 31 set and the header that the gate then asks for, as the writer put it there
+pub settled-headed : (s : List ℕ) (f : ℕ) → settled s ≡ true → findFooter s ≡ At f → Headed s f
+unfolding bookFile
+settled-headed s f e g = go (settled-exactly s .0 e)
+  where
+    go : SoundFile s → Headed s f
+    go x = rw (x .file) (law-header _ _ _ f (x .sound) (sym (ap findFooter (x .file)) ∙ g))

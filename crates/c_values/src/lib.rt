@@ -128,8 +128,8 @@ pub extern "C" fn zib_range_wraps_out(key: &[u8], value: &[u8], steps: i32) -> b
     values::range_wraps_out(key, value, GainSteps(steps))
 }
 
-// Steps as decibels, exactly: `minus` is 1 below zero, `millionths` how many millionths of a decibel there are, and `rest` how many
-// thousand-millionths of one more.
+// Steps as decibels, exactly: `minus` is 1 below zero, `millionths` are whole millionths of a decibel, and `rest` is what is left over, in
+// units of 10^-15 dB.
 #[no_mangle]
 pub extern "C" fn zib_steps_to_db(
     steps: i32,

@@ -10,7 +10,7 @@ use Rattle.replies.specs.Limits.{countLimit}
 use Rattle.items.specs.Items.{Item, parse}
 use Rattle.ape.specs.Tag.{findFooter, versionAt, sizeAt, countAt, areaAt}
 use Rattle.ape.specs.declared.Footer.the-variants.{At}
-use Rattle.calls.specs.Gate.{isVersion2, countsFooter, hasStart, countFits, areaFits, fit, allValid, gateItems, passesGate, itemsOf}
+use Rattle.calls.specs.Gate.{isVersion2, countsFooter, hasStart, countFits, areaFits, isHeaded, fit, allValid, gateItems, passesGate, itemsOf}
 use Rattle.calls.proofs.Lists.{both, cond-some, provided-some}
 
 -- the items that it finds
@@ -33,15 +33,18 @@ module _ (s : List ℕ) (f : ℕ) where
       (c, p, v)
 
   -- each test of the footer
-  pub fit-tests : fit s f ≡ true → (versionAt s f ≡ 2000) × (32 ≤ sizeAt s f) × (hasStart s f ≡ true) × (countAt s f ≤ countLimit) × (sizeAt s f ≤ 32800)
+  pub fit-tests : fit s f ≡ true
+      → (versionAt s f ≡ 2000) × (32 ≤ sizeAt s f) × (hasStart s f ≡ true) × (countAt s f ≤ countLimit) × (sizeAt s f ≤ 32800) × (isHeaded s f ≡ true)
   unfolding fit
   fit-tests e =
       let z : Bool = countsFooter s f in
       let a : Bool = hasStart s f in
       let c : Bool = countFits s f in
       let d : Bool = areaFits s f in
-      let (v, p) = both (isVersion2 s f) (z && (a && (c && d))) e in
-      let (q, r) = both z (a && (c && d)) p in
-      let (b, t) = both a (c && d) r in
-      let (m, n) = both c d t in
-      (eqb-true _ 2000 v, leb-true 32 _ q, b, leb-true _ countLimit m, leb-true _ 32800 n)
+      let g : Bool = isHeaded s f in
+      let (v, p) = both (isVersion2 s f) (z && (a && (c && (d && g)))) e in
+      let (q, r) = both z (a && (c && (d && g))) p in
+      let (b, t) = both a (c && (d && g)) r in
+      let (m, u) = both c (d && g) t in
+      let (n, h) = both d g u in
+      (eqb-true _ 2000 v, leb-true 32 _ q, b, leb-true _ countLimit m, leb-true _ 32800 n, h)

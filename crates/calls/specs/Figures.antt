@@ -1,4 +1,4 @@
--- Document 01's bench figures marked P, and the small examples of its table of replies, over the definitions that the contracts cite.
+-- Document 01's bench figures marked P, and the small examples of its table of replies with those of document 02's requests, over the definitions that the contracts cite.
 use Prim.Native.Nat.{ℕ}
 use mathlib.Core.Path.{_≡_}
 use mathlib.Core.Bool.{true, false}
@@ -30,7 +30,7 @@ use Rattle.values.specs.Undo.{formatUndo, parseUndo}
 use Rattle.values.specs.Stored.{shiftStored, rangeWrapsOut}
 use Rattle.decibels.specs.Gain.{shiftGain}
 use Rattle.items.specs.Items.{Item, areaBytes}
-use Rattle.ape.specs.Tag.{sizeAt, serialize, readTag}
+use Rattle.ape.specs.Tag.{headerFlags, footerFlags, sizeAt, serialize, readTag, replaced}
 use Rattle.calls.specs.Calls.{Level, setPlan, removePlan, shiftStoredGain, levelPlan, undoPlan}
 
 -- ---- what the figures are about
@@ -109,9 +109,21 @@ pub record Figures : Type 0 where
 
 -- ---- the small examples of the table of replies that these calls give
 
+-- a header or a footer: version, size, count, flags
+abbrev pub block : ℕ → ℕ → ℕ → ℕ → List ℕ
+block version size count flags = preamble ++ (u32le version ++ (u32le size ++ (u32le count ++ (u32le flags ++ replicate 8 0))))
+
 -- a footer of another version, alone
 abbrev pub version1000 : List ℕ
-version1000 = preamble ++ (u32le 1000 ++ (u32le 32 ++ (u32le 0 ++ (u32le 0 ++ replicate 8 0))))
+version1000 = block 1000 32 0 0
+
+-- these bytes, an item, and a footer whose flag bit 31 is set
+abbrev pub headedBy : List ℕ → List ℕ
+headedBy header = header ++ (areaBytes ab ++ block 2000 44 1 footerFlags)
+
+-- 32 bytes of sound
+abbrev pub sound : List ℕ
+sound = replicate 32 0x55
 
 -- so many items, all alike
 abbrev pub many : ℕ → List Item
@@ -148,6 +160,18 @@ pub record Examples : Type 0 where
   -- 8: footer version 1000
   pub eight : removePlan version1000 (ascii "AB") 1000 ≡ no NotEditable
   pub eight-utf8 : removePlan (serialize (item (ascii "AB") (0xFF ∷ []) ∷ [])) (ascii "CD") 1000 ≡ no NotEditable
+  -- 8: bit 31 is set, and the 32 bytes before the items are no header, or one of another version, size or count, or without bit 29
+  pub eight-header : removePlan (headedBy sound) (ascii "AB") 1000 ≡ no NotEditable
+  pub eight-version : removePlan (headedBy (block 1000 44 1 headerFlags)) (ascii "AB") 1000 ≡ no NotEditable
+  pub eight-size : removePlan (headedBy (block 2000 45 1 headerFlags)) (ascii "AB") 1000 ≡ no NotEditable
+  pub eight-count : removePlan (headedBy (block 2000 44 2 headerFlags)) (ascii "AB") 1000 ≡ no NotEditable
+  pub eight-bit : removePlan (headedBy (block 2000 44 1 footerFlags)) (ascii "AB") 1000 ≡ no NotEditable
+  -- its other flags are free; without bit 31 nothing is looked at
+  pub headed : removePlan (headedBy (block 2000 44 1 0x20000000)) (ascii "AB") 1000 ≡ yes []
+  pub unheaded : removePlan (sound ++ (areaBytes ab ++ block 2000 44 1 0)) (ascii "AB") 1000 ≡ yes sound
+  -- reading and replacement follow the Rust: they take the 32 bytes of sound for the header
+  pub headless-read : readTag (headedBy sound) ≡ some ab
+  pub headless-replaced : replaced (headedBy sound) ab ≡ serialize ab
   -- 8: a file of 42 items, for remove and undo too; it is read as before
   pub eight-remove : removePlan (serialize (many 42)) (ascii "AB") 10000 ≡ no NotEditable
   pub eight-undo : undoPlan (serialize (many 41 ++ undoItem (ascii "+003,+003,N"))) (10 ∷ []) [] 10000 ≡ no NotEditable

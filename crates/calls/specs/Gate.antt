@@ -1,13 +1,15 @@
--- The editing gate (document 01, "Level and undo"), and refusal 6's limits of a tag.
-use Prim.Native.Nat.{ℕ, _+_}
+-- The editing gate (document 01, "Level and undo"; its test of the header is document 02's, request 4), and refusal 6's limits of a tag.
+use Prim.Native.Nat.{ℕ, _+_, _/_, _%_}
 use mathlib.Core.Bool.{Bool, true, false, _&&_, cond}
 use mathlib.Core.Option.{Option, none, some}
 use mathlib.Core.List.{List, [], _∷_}
-use lib.ListN.{length}
+use lib.ListN.{length, drop}
 use lib.Dec.{leb, eqb}
+use Rattle.lists.specs.Bytes.{startsWith}
 use Rattle.lists.specs.Choice.{found, provided, isSome}
+use Rattle.lists.specs.Le.{readU32}
 use Rattle.replies.specs.Limits.{countLimit, areaLimit}
-use Rattle.frame.specs.Tail.{tagStart}
+use Rattle.frame.specs.Tail.{preamble, hasHeader, tagStart}
 use Rattle.utf8.specs.Utf8.{valid}
 use Rattle.items.specs.Items.{Item, areaBytes, parse}
 use Rattle.ape.specs.Tag.{findFooter, footed, started, versionAt, sizeAt, countAt, areaAt}
@@ -34,9 +36,23 @@ countFits s f = leb (countAt s f) countLimit
 abbrev pub areaFits : List ℕ → ℕ → Bool
 areaFits s f = leb (sizeAt s f) (32 + areaLimit)
 
+-- flag bit 29: this is the header
+abbrev pub isHeader : ℕ → Bool
+isHeader flags = eqb (flags / 0x20000000 % 2) 1
+
+-- the header of the footer at f stands at h: the preamble, the version of APEv2, the footer's size and count, bit 29
+unfoldable pub headerAt : List ℕ → ℕ → ℕ → Bool
+headerAt s f h =
+    startsWith preamble (drop h s)
+    && (isVersion2 s h && (eqb (sizeAt s h) (sizeAt s f) && (eqb (countAt s h) (countAt s f) && isHeader (readU32 s (h + 20)))))
+
+-- if flag bit 31 says that there is a header, it stands where the tag starts: 32 bytes before the items
+abbrev pub isHeaded : List ℕ → ℕ → Bool
+isHeaded s f = cond (hasHeader (readU32 s (f + 20))) (started (tagStart s f) false (headerAt s f)) true
+
 -- all of these
 unfoldable pub fit : List ℕ → ℕ → Bool
-fit s f = isVersion2 s f && (countsFooter s f && (hasStart s f && (countFits s f && areaFits s f)))
+fit s f = isVersion2 s f && (countsFooter s f && (hasStart s f && (countFits s f && (areaFits s f && isHeaded s f))))
 
 -- ---- what it asks of the items
 

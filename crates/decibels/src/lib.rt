@@ -10,7 +10,7 @@ ghost use Rattle.number.specs.Reading.{withSign, naturalOf};
 ghost use Rattle.decimal.specs.Writing.{textOf, shiftedIs};
 ghost use Rattle.decibels.specs.Gain as G;
 
-// An amount of decibels: whether it is below zero, how many millionths it has, and how many thousand-millionths of one more.
+// An amount of decibels: whether it is below zero, whole millionths, and the rest in units of 10^-15 dB.
 pub struct Millionths(pub bool, pub u64, pub u64);
 
 enum Count {

@@ -21,7 +21,7 @@ use Rattle.ape.specs.Tag.{findFooter, started, versionAt, sizeAt, countAt, area
 use Rattle.ape.specs.declared.Footer.{Footer}
 use Rattle.ape.specs.declared.Footer.the-variants.{At, Nowhere}
 use Rattle.ape.proofs.Files.{footer-within, area-part}
-use Rattle.calls.specs.Gate.{fit, allValid, gateItems, passesGate, itemsOf}
+use Rattle.calls.specs.Gate.{hasStart, isHeaded, fit, allValid, gateItems, passesGate, itemsOf}
 use Rattle.calls.proofs.Gates.{gate-footer, fit-tests}
 use Rattle.gate.specs.declared.Editable.{Editable}
 use Rattle.gate.specs.declared.Editable.the-variants.{Items, Unfit}
@@ -35,6 +35,19 @@ start-size s f a e = go (leb (f + 32) (length s)) (ltb (f + 32) (reach (sizeAt s
     go : (t u : Bool) → leb (f + 32) (length s) ≡ t → ltb (f + 32) (reach (sizeAt s f) (readU32 s (f + 20))) ≡ u → sizeAt s f ≤ f + 32
     go true true p q = let x : NoStart ≡ StartAt a = rw (p, q) at e in absurd (let z : _≡_ {A = ℕ} 0 1 = cc in omega arith)
     go true false p q = omega (arith, ltb-false (f + 32) (reach (sizeAt s f) (readU32 s (f + 20))) q)
+    go false u p q = let x : NoStart ≡ StartAt a = rw p at e in absurd (let z : _≡_ {A = ℕ} 0 1 = cc in omega arith)
+
+-- and it starts before the footer
+pub start-before : (s : List ℕ) (f a : ℕ) → tagStart s f ≡ StartAt a → 32 ≤ sizeAt s f → a ≤ f
+unfolding tagStart startOf
+start-before s f a e z = go (leb (f + 32) (length s)) (ltb (f + 32) (reach (sizeAt s f) (readU32 s (f + 20)))) refl refl
+  where
+    go : (t u : Bool) → leb (f + 32) (length s) ≡ t → ltb (f + 32) (reach (sizeAt s f) (readU32 s (f + 20))) ≡ u → a ≤ f
+    go true true p q = let x : NoStart ≡ StartAt a = rw (p, q) at e in absurd (let z : _≡_ {A = ℕ} 0 1 = cc in omega arith)
+    go true false p q =
+        let x : StartAt (f + 32 - reach (sizeAt s f) (readU32 s (f + 20))) ≡ StartAt a = rw (p, q) at e in
+        let y : f + 32 - reach (sizeAt s f) (readU32 s (f + 20)) ≡ a = cc in
+        omega arith
     go false u p q = let x : NoStart ≡ StartAt a = rw p at e in absurd (let z : _≡_ {A = ℕ} 0 1 = cc in omega arith)
 
 -- ---- the answer
@@ -90,19 +103,27 @@ module _ (s : List ℕ) (f : ℕ) (at : findFooter s ≡ At f) where
           -- ---- all hold
 
           module _ (l : sizeAt s f ≤ 32800) where
-            fits : fit s f ≡ true
+            begun : hasStart s f ≡ true
+            begun = rw b
+
+            pub no-header : isHeaded s f ≡ false → Unfit ≡ gateOf s
             unfolding fit
-            fits = rw (eq-eqb _ _ v, le-leb _ _ z, b, le-leb _ _ n, le-leb _ _ l)
+            no-header h = unfit (rw (eq-eqb _ _ v, le-leb _ _ z, begun, le-leb _ _ n, le-leb _ _ l) h)
 
-            gated : (t : Bool) → isSome (provided allValid (parse (countAt s f) (areaAt s f))) ≡ t → passesGate s ≡ t
-            unfolding passesGate gateItems
-            gated t e = rw (at, fits) e
+            module _ (g : isHeaded s f ≡ true) where
+              fits : fit s f ≡ true
+              unfolding fit
+              fits = rw (eq-eqb _ _ v, le-leb _ _ z, begun, le-leb _ _ n, le-leb _ _ l) g
 
-            pub bad-items : isSome (provided allValid (parse (countAt s f) (areaAt s f))) ≡ false → Unfit ≡ gateOf s
-            bad-items e = gate-shut s (gated false e)
+              gated : (t : Bool) → isSome (provided allValid (parse (countAt s f) (areaAt s f))) ≡ t → passesGate s ≡ t
+              unfolding passesGate gateItems
+              gated t e = rw (at, fits) e
 
-            pub good-items : isSome (provided allValid (parse (countAt s f) (areaAt s f))) ≡ true → Items (f + 32 - sizeAt s f) f (countAt s f) ≡ gateOf s
-            good-items e = gate-open s f at (gated true e)
+              pub bad-items : isSome (provided allValid (parse (countAt s f) (areaAt s f))) ≡ false → Unfit ≡ gateOf s
+              bad-items e = gate-shut s (gated false e)
+
+              pub good-items : isSome (provided allValid (parse (countAt s f) (areaAt s f))) ≡ true → Items (f + 32 - sizeAt s f) f (countAt s f) ≡ gateOf s
+              good-items e = gate-open s f at (gated true e)
 
 -- ---- what a caller learns from it
 

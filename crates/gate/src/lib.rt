@@ -1,14 +1,20 @@
 // The editing gate: whether a file is fit for editing, and where the items of its tag stand.
 ghost use mathlib.Core.Path.{_≡_};
 ghost use mathlib.Core.Bool.{true};
+ghost use Prim.Native.Nat.{_≤_, _+_};
+ghost use lib.ListN.{length};
 ghost use Rattle.lists.specs.Choice.{provided, isSome};
+ghost use Rattle.frame.specs.Tail.{tagStart};
 ghost use Rattle.utf8.specs.Utf8.{Classes};
 ghost use Rattle.items.specs.Items.{parse, itemsIn};
-ghost use Rattle.calls.specs.Gate.{allValid};
+ghost use Rattle.calls.specs.Gate.{isHeaded, allValid};
 ghost use Rattle.gate.specs.Gate.{gateOf};
 use ape::Footer;
 use frame::TagStart;
 use items::Stepped;
+
+// Flag bit 29: this is the header.
+const APE_FLAG_IS_HEADER: u32 = 0x2000_0000;
 
 // Where the items of a file stand that is fit for editing: an empty part where it has no tag.
 pub enum Editable {
@@ -62,6 +68,29 @@ fn is_clean(area: &[u8], count: usize) -> bool
     all_valid(&table, area, count)
 }
 
+// Whether a tag whose footer says that it has a header begins with one: the preamble, the version of APEv2, the footer's size and count, bit 29.
+fn is_headed(file: &[u8], footer: usize, start: usize) -> bool
+    requires { ⌜ (footer + 32 ≤ length (now file)) × (start ≤ footer) × (tagStart (now file) footer ≡ TagStart.At start) ⌝ }
+    ensures { λ r. ⌜ r ≡ isHeaded (now (file .entry)) footer ⌝ }
+{
+    if frame::read_u32_le(file, footer + 20) < frame::APE_FLAG_HEADER_PRESENT {
+        return true;
+    }
+    if !lists::starts_with(file, start, &frame::APE_PREAMBLE) {
+        return false;
+    }
+    if frame::read_u32_le(file, start + 8) != 2000 {
+        return false;
+    }
+    if frame::read_u32_le(file, start + 12) != frame::read_u32_le(file, footer + 12) {
+        return false;
+    }
+    if frame::read_u32_le(file, start + 16) != frame::read_u32_le(file, footer + 16) {
+        return false;
+    }
+    frame::read_u32_le(file, start + 20) / APE_FLAG_IS_HEADER % 2 == 1
+}
+
 // Where the items of the file's tag stand, if the file is fit for editing.
 pub fn gate(file: &[u8]) -> Editable
     ensures { λ r. ⌜ r ≡ gateOf (now (file .entry)) ⌝ }
@@ -82,7 +111,7 @@ pub fn gate(file: &[u8]) -> Editable
         return Editable::Unfit;
     }
     let s = frame::ape_tag_start(file, footer);
-    let TagStart::At(_) = s else {
+    let TagStart::At(tag) = s else {
         return Editable::Unfit;
     };
     let count = frame::read_u32_le(file, footer + 16) as usize;
@@ -90,6 +119,9 @@ pub fn gate(file: &[u8]) -> Editable
         return Editable::Unfit;
     }
     if 32 + replies::AREA_LIMIT < size {
+        return Editable::Unfit;
+    }
+    if !is_headed(file, footer, tag) {
         return Editable::Unfit;
     }
     let start = footer + 32 - size;

@@ -20,7 +20,7 @@ use Rattle.utf8.specs.Utf8 as utf8
 use Rattle.lossy.proofs.Lists.{small-all}
 use Rattle.items.specs.Items.{itemBytes, areaBytes, headAt, head, plainHead, parse, getItem, setItem, without}
 use Rattle.ape.specs.Tag.{blockBytes, tagBytes, serialize, findFooter, areaAt, moved, split, fileOf, replaced}
-use Rattle.calls.specs.Gate.{fit, allValid, gateItems, passesGate, itemsOf, tagFits}
+use Rattle.calls.specs.Gate.{headerAt, fit, allValid, gateItems, passesGate, itemsOf, tagFits}
 use Rattle.calls.specs.Calls.{setPlan, removePlan, staying, shiftItem, shiftStoredGain, storedUndo, booked, least, greatest, shiftedItems, levelItems, countOf, isPeakKey, levelPlan}
 use Rattle.calls.specs.Figures.{fives}
 use Rattle.book.specs.Book.{settled}
@@ -36,7 +36,7 @@ pub record Ran : Type 0 where
   pub long : length ((run start calls) .file) ≡ 143
 
 pub ran : Ran
-unfolding start calls all same startsWith placeOf upper upperAll sameKey whichOf keys whichKey isFrom undoKey minmaxKey isReserved isKey before behind field isDigit digitsFrom natural isMinus unsigned whole i32 u8 isSpace trimLeft keep trimRight trim places decimal signed formatRange parseRange shiftRange kindOf shiftStored formatUndo parseUndo undoWraps accumulated adjust standsAt startOf tagStart numberOf classAt utf8.run stepOf validFrom valid itemBytes areaBytes headAt head plainHead parse getItem setItem without blockBytes tagBytes serialize findFooter areaAt moved split fileOf replaced fit allValid gateItems passesGate itemsOf tagFits setPlan removePlan staying shiftItem shiftStoredGain storedUndo booked least greatest shiftedItems levelItems countOf isPeakKey levelPlan editPlan outcome accepts next run acceptedLevels acceptedEdits
+unfolding start calls all same startsWith placeOf upper upperAll sameKey whichOf keys whichKey isFrom undoKey minmaxKey isReserved isKey before behind field isDigit digitsFrom natural isMinus unsigned whole i32 u8 isSpace trimLeft keep trimRight trim places decimal signed formatRange parseRange shiftRange kindOf shiftStored formatUndo parseUndo undoWraps accumulated adjust standsAt startOf tagStart numberOf classAt utf8.run stepOf validFrom valid itemBytes areaBytes headAt head plainHead parse getItem setItem without blockBytes tagBytes serialize findFooter areaAt moved split fileOf replaced headerAt fit allValid gateItems passesGate itemsOf tagFits setPlan removePlan staying shiftItem shiftStoredGain storedUndo booked least greatest shiftedItems levelItems countOf isPeakKey levelPlan editPlan outcome accepts next run acceptedLevels acceptedEdits
 ran = record { levels = refl; edits = refl; long = refl }
 
 -- two level calls are accepted

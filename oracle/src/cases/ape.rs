@@ -282,6 +282,28 @@ pub fn random_file(rng: &mut Rng) -> Vec<u8> {
     file
 }
 
+/// An undo item behind a header that is right, or wrong in one bit, behind so many bytes, or cut by the start of the file. The footer has
+/// these flags.
+pub fn headed_files(fronts: &[usize], flags: &[u32]) -> Vec<Vec<u8>> {
+    let area = item_bytes(11, 0, b"MP3GAIN_UNDO", b"+003,-002,W");
+    let block = |flags| block(area.len() as u32 + 32, 1, flags, 2000);
+    let good = block(0xA000_0000);
+    let mut headers = vec![good.clone()];
+    for bit in 0..256 {
+        let mut header = good.clone();
+        header[bit / 8] ^= 1 << (bit % 8);
+        headers.push(header);
+    }
+    let mut files = Vec::new();
+    for footer in flags.iter().map(|&f| block(f)) {
+        for header in &headers {
+            files.extend(fronts.iter().map(|&n| [&vec![0x55; n], &header[..], &area, &footer].concat()));
+        }
+        files.extend([0, 1, 31].map(|n| [&good[32 - n..], &area, &footer].concat()));
+    }
+    files
+}
+
 /// Files about each boundary: of their length, the footer's place and numbers, and the items.
 pub fn edge_files() -> Vec<Vec<u8>> {
     let id3v1 = [&b"TAG"[..], &[0; 125]].concat();

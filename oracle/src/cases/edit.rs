@@ -4,7 +4,7 @@
 //! The editing gate and the refusals are not in the published Rust: they are read here a second time from document 01. What an
 //! accepted call does to the tag, the file and the gains is the published Rust's.
 
-use super::ape::{area_of, edge_files, is_area, item, random_file, tag_of, written};
+use super::ape::{area_of, edge_files, headed_files, is_area, item, random_file, tag_of, written};
 use super::{ape, level, listing, shift, Case};
 use crate::ape::{find_ape_footer, parse_undo_values, parse_undo_wrap, reach, read_ape_tag, ApeItem, ApeTag};
 use crate::frame::{adjust_gain_value, read_u32_le, GainMode};
@@ -124,6 +124,15 @@ pub fn gate(file: &[u8]) -> Option<ApeTag> {
     let (version, size, count, header) = (number(8), number(12), number(16), number(20) >> 31);
     if version != 2000 || size < 32 || footer + 32 < size + 32 * header {
         return None;
+    }
+    // Document 02's request 4: a header that the footer's bit 31 speaks of stands before the items.
+    if header == 1 {
+        let header = &file[footer - size..][..32];
+        let number = |at: usize| read_u32_le(&header[at..]) as usize;
+        let said = [number(8), number(12), number(16), number(20) >> 29 & 1];
+        if !header.starts_with(b"APETAGEX") || said != [2000, size, count, 1] {
+            return None;
+        }
     }
     let area = &file[footer + 32 - size..footer];
     if count > ITEMS || area.len() > 32_768 || !is_area(area, count) {
@@ -443,6 +452,12 @@ fn compare(c: &mut Compare) {
         undoes(c, &file, b"\x07", b"");
         as_before(c, &file);
     }
+    // Every single bit of a header, which the footer speaks of or not.
+    for file in headed_files(&[0, 1, 31, 32], &[0, 0x8000_0000]) {
+        edits(c, &file, b"Ab", b"new");
+        undoes(c, &file, b"\x00\x01\x80", b"\xFF");
+        as_before(c, &file);
+    }
     for n in 32_740..=32_775 {
         let file = reach::replace(b"audio", &tag_of(vec![item("AB", &"v".repeat(n))]));
         edits(c, &file, b"CD", b"v");
@@ -512,7 +527,9 @@ fn record(r: &mut Record) {
     level::record(r);
     // `gate FILE REPLY START END COUNT`.
     let random: Vec<_> = (0..100).map(|_| edited_file(&mut r.rng)).collect();
-    for file in edge_files().iter().chain(&random) {
+    // Of the headers every fifth: each of the 32 bytes is among them, and bit 29.
+    let headed = headed_files(&[0], &[0x8000_0000]);
+    for file in edge_files().iter().chain(&random).chain(headed.iter().step_by(5)) {
         let (reply, (start, end, count)) = gate_places(file).map_or_else(|n| (n, (0, 0, 0)), |places| (0, places));
         let numbers = [reply as usize, start, end, count].map(|n| n.to_string());
         r.line(&[&["gate".into(), hex(file)], &numbers[..]].concat());

@@ -3,7 +3,7 @@
 //! The published Rust has no such call. Its refusals and its steps are read here a second time from document 01; the published functions do
 //! what they can: the stored undo accumulated, stored values shifted, items set and removed, gains adjusted, the tag replaced.
 
-use super::ape::{area_of, item, random_file, tag_of};
+use super::ape::{area_of, headed_files, item, random_file, tag_of};
 use super::edit::{around, finish, gate, in_domain, in_rooms, moved, some_items, Levelled, ITEMS, LIMIT};
 use super::shift::{flag, full_tag, shifted, some_tag};
 use super::values::{any_i32, is_peak_key, nearly, turn, ENDS, FLAGS, MINMAX, NUMBERS, TRACK_GAIN};
@@ -256,6 +256,10 @@ pub fn compare(c: &mut Compare) {
                 both(c, &other, left, right, call);
             }
         }
+    }
+    // Every single bit of a header.
+    for file in headed_files(&[0, 31], &[0, 0x8000_0000]) {
+        both(c, &file, left, right, by(5, 5, true));
     }
     // Refusal 6, from both sides: the items of the finished tag, and their bytes, which a shift makes more and a drop fewer.
     for n in ITEMS - 3..=ITEMS + 1 {

@@ -16,8 +16,8 @@ use Rattle.items.specs.Items.{parse}
 use Rattle.ape.specs.Tag.{findFooter, versionAt, sizeAt, countAt, areaAt}
 use Rattle.ape.specs.declared.Footer.the-variants.{At}
 use Rattle.ape.proofs.Files.{footer-within, area-part}
-use Rattle.calls.specs.Gate.{allValid}
-use Rattle.gate.proofs.Gates.{start-size, gate-empty, other-version, no-footer-counted, no-start, many-items, many-bytes, bad-items, good-items}
+use Rattle.calls.specs.Gate.{isHeaded, allValid}
+use Rattle.gate.proofs.Gates.{start-size, start-before, gate-empty, other-version, no-footer-counted, no-start, many-items, many-bytes, no-header, bad-items, good-items}
 use Rattle.gate.proofs.gate.Statement.{statement}
 use Rattle.gate.proofs.gate.Tie as tie
 
@@ -53,85 +53,112 @@ returns-4 : tie.Need-returns-4
 returns-4 c =
     let e = c .before .before .before in
     let k = e .before .before .before .before in
-    no-start (k .before .before .before .before .before .args .file .now) (k .before .found .given .0 .0) (here k) (version (e .before .before)) (counted e) (sym (c .before .before .ape-tag-start .ensures) ∙ c .enum-told3 .given .1)
+    no-start (k .before .before .before .before .before .args .file .now) (k .before .found .given .0 .0) (here k) (version (e .before .before)) (counted e) (sym (c .before .before .ape-tag-start .ensures) ∙ c .enum-told2 .given .1)
 
 -- the tag starts in the file
-begun : (c : tie.After-enum-told2) → tagStart (c .before .before .before .before .before .before .before .before .before .before .before .before .args .file .now) (c .before .before .before .before .before .before .before .before .found .given .0 .0) ≡ StartAt (c .enum-told2 .given .0 .0)
-begun c = sym (c .before .before .ape-tag-start .ensures) ∙ c .enum-told2 .given .1
+begun : (c : tie.After-known-told2) → tagStart (c .before .before .before .before .before .before .before .before .before .before .before .before .before .args .file .now) (c .before .before .before .before .before .before .before .before .before .found .given .0 .0) ≡ StartAt (c .before .s .given .0 .0)
+begun c = sym (c .before .before .before .ape-tag-start .ensures) ∙ c .before .s .given .1
 
 returns-5 : tie.Need-returns-5
 returns-5 c =
     let b = c .before .before in
-    let e = b .before .before .before in
+    let e = b .before .before .before .before in
     let k = e .before .before .before .before in
-    many-items (k .before .before .before .before .before .args .file .now) (k .before .found .given .0 .0) (here k) (version (e .before .before)) (counted e) (b .enum-told2 .given .0 .0) (begun b) (omega (arith, c .before .read-u32-le3 .ensures, c .if3 .taken))
+    many-items (k .before .before .before .before .before .args .file .now) (k .before .found .given .0 .0) (here k) (version (e .before .before)) (counted e) (b .before .s .given .0 .0) (begun b) (omega (arith, c .before .read-u32-le3 .ensures, c .if3 .taken))
 
 -- and has not too many items
-few : (c : tie.Else3) → countAt (c .before .before .before .before .before .before .before .before .before .before .before .before .before .before .args .file .now) (c .before .before .before .before .before .before .before .before .before .before .found .given .0 .0) ≤ countLimit
+few : (c : tie.Else3) → countAt (c .before .before .before .before .before .before .before .before .before .before .before .before .before .before .before .args .file .now) (c .before .before .before .before .before .before .before .before .before .before .before .found .given .0 .0) ≤ countLimit
 few c = omega (arith, c .before .read-u32-le3 .ensures, c .if3 .left)
 
 returns-6 : tie.Need-returns-6
 returns-6 c =
     let n = c .before in
     let b = n .before .before in
-    let e = b .before .before .before in
+    let e = b .before .before .before .before in
     let k = e .before .before .before .before in
-    many-bytes (k .before .before .before .before .before .args .file .now) (k .before .found .given .0 .0) (here k) (version (e .before .before)) (counted e) (b .enum-told2 .given .0 .0) (begun b) (few n) (omega (arith, e .before .read-u32-le2 .ensures, c .if4 .taken))
+    many-bytes (k .before .before .before .before .before .args .file .now) (k .before .found .given .0 .0) (here k) (version (e .before .before)) (counted e) (b .before .s .given .0 .0) (begun b) (few n) (omega (arith, e .before .read-u32-le2 .ensures, c .if4 .taken))
 
 -- nor too many bytes
-short : (c : tie.Else4) → (sizeAt (c .before .before .before .before .before .before .before .before .before .before .before .before .before .before .before .args .file .now) (c .before .before .before .before .before .before .before .before .before .before .before .found .given .0 .0) ≤ 32800) × (c .before .before .before .before .before .before .before .read-u32-le2 .result ≤ c .before .before .before .before .before .before .before .before .before .before .before .found .given .0 .0 + 32)
+short : (c : tie.Else4) → let s = c .before .before .before .before .before .before .before .before .before .before .before .before .before .before .before .before .args .file .now in let f = c .before .before .before .before .before .before .before .before .before .before .before .before .found .given .0 .0 in
+    (sizeAt s f ≤ 32800) × (c .before .before .before .before .before .before .before .before .read-u32-le2 .result ≤ f + 32)
 short c =
     let b = c .before .before .before in
-    let s = c .before .before .before .before .before .before .before .before .before .before .before .before .before .before .before .args .file .now in
-    let f = c .before .before .before .before .before .before .before .before .before .before .before .found .given .0 .0 in
-    (omega (arith, c .before .before .before .before .before .before .before .read-u32-le2 .ensures, c .if4 .left), omega (arith, c .before .before .before .before .before .before .before .read-u32-le2 .ensures, start-size s f (b .enum-told2 .given .0 .0) (begun b)))
+    let s = c .before .before .before .before .before .before .before .before .before .before .before .before .before .before .before .before .args .file .now in
+    let f = c .before .before .before .before .before .before .before .before .before .before .before .before .found .given .0 .0 in
+    let z = c .before .before .before .before .before .before .before .before .read-u32-le2 .ensures in
+    (omega (arith, z, c .if4 .left), omega (arith, z, start-size s f (b .before .s .given .0 .0) (begun b)))
 
--- the part that is tested is the area of the items
-area : (c : tie.After-is-clean)
-    → let s = c .before .before .before .before .before .before .before .before .before .before .before .before .before .before .before .before .before .args .file .now in
-    let f = c .before .before .before .before .before .before .before .before .before .before .before .before .before .found .given .0 .0 in
-    part (f + 32 - c .before .before .before .before .before .before .before .before .before .read-u32-le2 .result) f s ≡ areaAt s f
-area c =
-    let s = c .before .before .before .before .before .before .before .before .before .before .before .before .before .before .before .before .before .args .file .now in
-    let f = c .before .before .before .before .before .before .before .before .before .before .before .before .before .found .given .0 .0 in
-    let n = c .before .before .before .before .before .before .before .before .before .read-u32-le2 .result in
-    area-part s f (f + 32 - n) n (sym (c .before .before .before .before .before .before .before .before .before .read-u32-le2 .ensures)) (omega (arith, short (c .before .before), counted (c .before .before .before .before .before .before .before .before), c .before .before .before .before .before .before .before .before .before .read-u32-le2 .ensures)) (λ h. refl)
-
-clean : (c : tie.After-is-clean) (t : Bool) → c .is-clean .result ≡ t
-    → let s = c .before .before .before .before .before .before .before .before .before .before .before .before .before .before .before .before .before .args .file .now in
-    let f = c .before .before .before .before .before .before .before .before .before .before .before .before .before .found .given .0 .0 in
-    isSome (provided allValid (parse (countAt s f) (areaAt s f))) ≡ t
-clean c t e =
-    let s = c .before .before .before .before .before .before .before .before .before .before .before .before .before .before .before .before .before .args .file .now in
-    let f = c .before .before .before .before .before .before .before .before .before .before .before .before .before .found .given .0 .0 in
-    ap (λ (l : List ℕ). isSome (provided allValid (parse (countAt s f) l))) (sym (area c))
-    ∙ ap (λ (n : ℕ). isSome (provided allValid (parse n (part (f + 32 - c .before .before .before .before .before .before .before .before .before .read-u32-le2 .result) f s)))) (sym (c .before .before .before .before .read-u32-le3 .ensures))
-    ∙ sym (c .is-clean .ensures)
-    ∙ e
+-- the tag starts before its footer
+is-headed-requires : tie.Need-is-headed-requires
+is-headed-requires c κs =
+    let b = c .before .before .before in
+    let e = b .before .before .before .before in
+    let k = e .before .before .before .before in
+    (omega (arith, inside k), start-before _ _ _ (begun b) (counted e), begun b)
 
 returns-7 : tie.Need-returns-7
 returns-7 c =
-    let p = c .before in
-    let l = p .before .before in
+    let l = c .before .before in
     let b = l .before .before .before in
-    let e = b .before .before .before in
+    let e = b .before .before .before .before in
     let k = e .before .before .before .before in
-    bad-items (k .before .before .before .before .before .args .file .now) (k .before .found .given .0 .0) (here k) (version (e .before .before)) (counted e) (b .enum-told2 .given .0 .0) (begun b) (few (l .before)) (short l .0)
-    (clean p false (not-true (p .is-clean .result) (c .if5 .taken)))
+    no-header (k .before .before .before .before .before .args .file .now) (k .before .found .given .0 .0) (here k) (version (e .before .before)) (counted e) (b .before .s .given .0 .0) (begun b) (few (l .before)) (short l .0)
+    (sym (c .before .is-headed .ensures) ∙ not-true (c .before .is-headed .result) (c .if5 .taken))
+
+-- the header stands there
+headed : (c : tie.Else5) → isHeaded (c .before .before .before .before .before .before .before .before .before .before .before .before .before .before .before .before .before .before .args .file .now) (c .before .before .before .before .before .before .before .before .before .before .before .before .before .before .found .given .0 .0) ≡ true
+headed c = sym (c .before .is-headed .ensures) ∙ not-false (c .before .is-headed .result) (c .if5 .left)
+
+-- the part that is tested is the area of the items
+area : (c : tie.After-is-clean)
+    → let s = c .before .before .before .before .before .before .before .before .before .before .before .before .before .before .before .before .before .before .before .before .args .file .now in
+    let f = c .before .before .before .before .before .before .before .before .before .before .before .before .before .before .before .before .found .given .0 .0 in
+    part (f + 32 - c .before .before .before .before .before .before .before .before .before .before .before .before .read-u32-le2 .result) f s ≡ areaAt s f
+area c =
+    let s = c .before .before .before .before .before .before .before .before .before .before .before .before .before .before .before .before .before .before .before .before .args .file .now in
+    let f = c .before .before .before .before .before .before .before .before .before .before .before .before .before .before .before .before .found .given .0 .0 in
+    let p = c .before .before .before .before .before .before .before .before .before .before .before .before in
+    let n = p .read-u32-le2 .result in
+    area-part s f (f + 32 - n) n (sym (p .read-u32-le2 .ensures)) (omega (arith, short (c .before .before .before .before), counted (c .before .before .before .before .before .before .before .before .before .before .before), p .read-u32-le2 .ensures)) (λ h. refl)
+
+clean : (c : tie.After-is-clean) (t : Bool) → c .is-clean .result ≡ t
+    → let s = c .before .before .before .before .before .before .before .before .before .before .before .before .before .before .before .before .before .before .before .before .args .file .now in
+    let f = c .before .before .before .before .before .before .before .before .before .before .before .before .before .before .before .before .found .given .0 .0 in
+    isSome (provided allValid (parse (countAt s f) (areaAt s f))) ≡ t
+clean c t e =
+    let s = c .before .before .before .before .before .before .before .before .before .before .before .before .before .before .before .before .before .before .before .before .args .file .now in
+    let f = c .before .before .before .before .before .before .before .before .before .before .before .before .before .before .before .before .found .given .0 .0 in
+    let a = f + 32 - c .before .before .before .before .before .before .before .before .before .before .before .before .read-u32-le2 .result in
+    ap (λ (l : List ℕ). isSome (provided allValid (parse (countAt s f) l))) (sym (area c))
+    ∙ ap (λ (n : ℕ). isSome (provided allValid (parse n (part a f s)))) (sym (c .before .before .before .before .before .before .read-u32-le3 .ensures))
+    ∙ sym (c .is-clean .ensures)
+    ∙ e
 
 returns-8 : tie.Need-returns-8
 returns-8 c =
     let p = c .before in
-    let l = p .before .before in
+    let h = p .before .before in
+    let l = h .before .before in
     let b = l .before .before .before in
-    let e = b .before .before .before in
+    let e = b .before .before .before .before in
+    let k = e .before .before .before .before in
+    bad-items (k .before .before .before .before .before .args .file .now) (k .before .found .given .0 .0) (here k) (version (e .before .before)) (counted e) (b .before .s .given .0 .0) (begun b) (few (l .before)) (short l .0) (headed h)
+    (clean p false (not-true (p .is-clean .result) (c .if6 .taken)))
+
+returns-9 : tie.Need-returns-9
+returns-9 c =
+    let p = c .before in
+    let h = p .before .before in
+    let l = h .before .before in
+    let b = l .before .before .before in
+    let e = b .before .before .before .before in
     let k = e .before .before .before .before in
     let s = k .before .before .before .before .before .args .file .now in
     let f = k .before .found .given .0 .0 in
-    let x = clean p true (not-false (p .is-clean .result) (c .if5 .left)) in
+    let x = clean p true (not-false (p .is-clean .result) (c .if6 .left)) in
     let size : e .before .read-u32-le2 .result ≡ sizeAt s f = e .before .read-u32-le2 .ensures in
     let count : l .before .before .read-u32-le3 .result ≡ countAt s f = l .before .before .read-u32-le3 .ensures in
-    rw (size, count) (good-items s f (here k) (version (e .before .before)) (counted e) (b .enum-told2 .given .0 .0) (begun b) (few (l .before)) (short l .0) x)
+    rw (size, count) (good-items s f (here k) (version (e .before .before)) (counted e) (b .before .s .given .0 .0) (begun b) (few (l .before)) (short l .0) (headed h) x)
 
 pub gate-spec : {M : Type 1} → statement M
 gate-spec =
@@ -152,17 +179,19 @@ gate-spec =
     (λ c. search needs)
     (λ c. search needs)
     returns-4
-    (λ c. omega (arith, inside (c .before .before .before .before .before .before .before)))
-    (λ c κs. omega (arith, inside (c .before .before .before .before .before .before .before)))
+    (λ c. omega (arith, inside (c .before .before .before .before .before .before .before .before)))
+    (λ c κs. omega (arith, inside (c .before .before .before .before .before .before .before .before)))
     (λ c. search needs)
     returns-5
     (λ c. search needs)
     returns-6
-    (λ c. omega (arith, inside (c .before .before .before .before .before .before .before .before .before .before)))
-    (λ c. omega (arith, short c))
-    (λ c. search needs)
-    (λ c. search needs)
-    (λ c. omega (arith, inside (c .before .before .before .before .before .before .before .before .before .before)))
-    (λ c κs. search needs)
+    is-headed-requires
     returns-7
-    returns-8)
+    (λ c. omega (arith, inside (c .before .before .before .before .before .before .before .before .before .before .before .before .before)))
+    (λ c. omega (arith, short (c .before .before)))
+    (λ c. search needs)
+    (λ c. search needs)
+    (λ c. omega (arith, inside (c .before .before .before .before .before .before .before .before .before .before .before .before .before)))
+    (λ c κs. search needs)
+    returns-8
+    returns-9)
