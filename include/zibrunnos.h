@@ -43,7 +43,7 @@ enum zib_refusal {
     ZIB_FLAG_DIFFERS = 9,       /* the file was levelled with the other flag before */
     ZIB_NO_UNDO = 10,           /* the file has no undo item */
     ZIB_UNDO_OUT_OF_RANGE = 11, /* an undo number would leave -32,768..32,767 */
-    ZIB_MALFORMED_AREA = 12,    /* the item area is not exactly `count` items with flags zero */
+    ZIB_MALFORMED_AREA = 12,    /* the item area is not exactly `count` items */
     ZIB_MALFORMED_SLIP = 13     /* the level slip has another form */
 };
 
@@ -65,9 +65,9 @@ uint32_t zib_undo(
     const uint8_t *file, size_t file_len, uint8_t *left, size_t left_len, uint8_t *right, size_t right_len, uint8_t *out,
     size_t out_len, size_t *written, size_t *peaks);
 
-/* Moves the ranges and the gain texts in an area by so many steps; with `wrap`, a range that would leave 0..255 is dropped. The new area
- * goes to the front of `out`, the number of its items to `items` and its length to `written`. An output of area_len + 32 * count bytes is
- * long enough. Refusals 12, 2 and 5. */
+/* Moves the ranges and the gain texts in an area by so many steps, whatever the type of their items; with `wrap`, a range that would leave
+ * 0..255 is dropped. A value that is moved counts as set. The new area goes to the front of `out`, the number of its items to `items` and
+ * its length to `written`. An output of area_len + 32 * count bytes is long enough. Refusals 12, 2 and 5. */
 uint32_t zib_shift_stored_gain(
     const uint8_t *area, size_t area_len, size_t count, int32_t steps, bool wrap, uint8_t *out, size_t out_len, size_t *items,
     size_t *written);
@@ -75,8 +75,9 @@ uint32_t zib_shift_stored_gain(
 /* ---- Items of a file's tag, and the editing gate: libc_edit.a */
 
 /* Sets an item in the tag of a file: the first item with this key gets the value and keeps its spelling and its place; where there is none,
- * an item with the key in upper case is added at the end. The new file goes to the front of `out` and its length to `written`. An output of
- * file_len + key_len + value_len + 73 bytes is long enough. Refusals 1, 3, 4, 8, 6 and 5. */
+ * an item with the key in upper case is added at the end. What is set is text: of the flags that the item had only read-only stays, and a
+ * new item has flags zero. The new file goes to the front of `out` and its length to `written`. An output of file_len + key_len + value_len
+ * + 73 bytes is long enough. Refusals 1, 3, 4, 8, 6 and 5. */
 uint32_t zib_set_ape_item(
     const uint8_t *file, size_t file_len, const uint8_t *key, size_t key_len, const uint8_t *value, size_t value_len, uint8_t *out,
     size_t out_len, size_t *written);
@@ -88,9 +89,9 @@ uint32_t zib_remove_ape_item(
 
 /* The editing gate: says whether a file may be edited, and where the items of its tag are: from `start` up to `end`, `count` of them. All
  * three are 0 for a file without a footer, which may be edited. Refusal 1; refusal 8 where a footer is found and the version is not 2000,
- * the size is less than 32, the tag would start before the file, the items are not exactly `count` items that end at the footer, an item
- * has flags (a picture, a link, a read-only item), a key or a value is not UTF-8, or there are more than ZIB_ITEM_LIMIT items or
- * ZIB_AREA_LIMIT bytes of items. */
+ * the size is less than 32, the tag would start before the file, the footer speaks of a header that is not there, the items are not exactly
+ * `count` items that end at the footer, an item has type 3 or a bit of its flags above bit 2, a key is not UTF-8, a value that is not binary
+ * is not UTF-8, or there are more than ZIB_ITEM_LIMIT items or ZIB_AREA_LIMIT bytes of items, pictures included. */
 uint32_t zib_gate(const uint8_t *file, size_t file_len, size_t *start, size_t *end, size_t *count);
 
 /* ---- The tag of a file as a whole: libc_ape.a */
@@ -99,8 +100,8 @@ uint32_t zib_gate(const uint8_t *file, size_t file_len, size_t *start, size_t *e
 uint32_t zib_find_ape_footer(const uint8_t *file, size_t file_len, uint32_t *there, size_t *footer);
 
 /* Reads the tag of a file into an item area: `there` is 1, with the number of items and the length of their area, or all three are 0 for no
- * tag. The flags of the items are dropped, and each part of a key or value that is not UTF-8 becomes U+FFFD: a picture that is read and
- * written back is lost. An area of 3 * file_len bytes is long enough. Refusals 1 and 5. */
+ * tag. The items keep their flags, and binary values are copied as they are; in a key, and in any other value, each part that is not UTF-8
+ * becomes U+FFFD. An area of 3 * file_len bytes is long enough. Refusals 1 and 5. */
 uint32_t zib_read_ape_tag(
     const uint8_t *file, size_t file_len, uint8_t *area, size_t area_len, uint32_t *there, size_t *count, size_t *written);
 
@@ -124,8 +125,9 @@ uint32_t zib_replace_ape_tag(
  * `refused=1`: pass its last ZIB_LIST_LIMIT bytes. No other call takes a pointer without a length: `text` has ZIB_LIST_ROOM bytes. */
 size_t zib_list_tag(const uint8_t *file, size_t file_len, uint8_t text[ZIB_LIST_ROOM]);
 
-/* ---- An item area: `count` items one after another, each the length of its value and its flags in four bytes each (the lowest first;
- * flags zero), its key, a zero byte and its value. The calls that read one: libc_items.a */
+/* ---- An item area: `count` items one after another, each the length of its value and its flags in four bytes each (the lowest first), its
+ * key, a zero byte and its value. Bit 0 of the flags says read-only, bits 2..1 the type: 0 text, 1 binary (a picture), 2 external (a link),
+ * 3 reserved; an area may hold any flags. The calls that read one: libc_items.a */
 
 /* Answers whether a call takes this key, or gives refusal 3 for it. */
 bool zib_is_key(const uint8_t *key, size_t key_len);
@@ -133,11 +135,11 @@ bool zib_is_key(const uint8_t *key, size_t key_len);
 /* Answers which of mp3gain's eight keys this is, in any letter case: its place, from 0 to 7, or 8 for none of them. */
 size_t zib_which_key(const uint8_t *key, size_t key_len);
 
-/* Finds the item that begins at the place `at`: `there` is 1, with the places where its key and its value start and end, or all five
- * numbers are 0 at the end of the area. The first item begins at 0, and each next one where the value before it ends. Refusal 12. */
+/* Finds the item that begins at the place `at`: `there` is 1, with its flags and the places where its key and its value start and end, or all
+ * six numbers are 0 at the end of the area. The first item begins at 0, and each next one where the value before it ends. Refusal 12. */
 uint32_t zib_item_at(
-    const uint8_t *area, size_t area_len, size_t at, uint32_t *there, size_t *key_start, size_t *key_end, size_t *value_start,
-    size_t *value_end);
+    const uint8_t *area, size_t area_len, size_t at, uint32_t *there, uint32_t *flags, size_t *key_start, size_t *key_end,
+    size_t *value_start, size_t *value_end);
 
 /* Finds the value of the first item with this key: `there` is 1, with its place and its size in the area, or all three are 0 where no item
  * has the key. Refusals 12 and 3. */

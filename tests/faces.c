@@ -31,6 +31,9 @@ static bool is(const uint8_t *b, size_t n, const char *s, size_t len)
 #define END(flags) "APETAGEX" "\xd0\7\0\0" "\x2c\0\0\0" "\1\0\0\0" "\0\0\0" flags "\0\0\0\0" "\0\0\0\0"
 #define TAG END("\xa0") AREA END("\x80")
 
+/* key COVER, value FF D8, read-only and binary */
+#define COVER "\2\0\0\0" "\3\0\0\0" "COVER\0" "\xff\xd8"
+
 static void frame(void)
 {
     uint32_t value = 7, there = 7;
@@ -82,15 +85,16 @@ static void items(void)
 {
     uint8_t a[256], b[256];
     size_t count = 0, n = 0, start = 0, size = 0;
-    uint32_t there = 7;
+    uint32_t there = 7, flags = 7;
     int32_t steps = 7;
     CHECK(zib_is_key(TEXT("AB")) && !zib_is_key(TEXT("A")) && !zib_is_key(TEXT("tag")));
     CHECK(zib_which_key(TEXT("mp3gain_undo")) == 0 && zib_which_key(TEXT("AB")) == 8);
     size_t key_start, key_end;
-    CHECK(zib_item_at(TEXT(AREA), 0, &there, &key_start, &key_end, &start, &size) == 0 && there == 1);
+    CHECK(zib_item_at(TEXT(AREA), 0, &there, &flags, &key_start, &key_end, &start, &size) == 0 && there == 1 && flags == 0);
     CHECK(key_start == 8 && key_end == 10 && start == 11 && size == 12);
-    CHECK(zib_item_at(TEXT(AREA), 12, &there, &key_start, &key_end, &start, &size) == 0 && there == 0 && key_end == 0);
-    CHECK(zib_item_at(TEXT(AREA), 1, &there, &key_start, &key_end, &start, &size) == ZIB_MALFORMED_AREA);
+    CHECK(zib_item_at(TEXT(COVER), 0, &there, &flags, &key_start, &key_end, &start, &size) == 0 && there == 1 && flags == 3);
+    CHECK(zib_item_at(TEXT(COVER), 1, &there, &flags, &key_start, &key_end, &start, &size) == ZIB_MALFORMED_AREA && there == 1 && flags == 3);
+    CHECK(zib_item_at(TEXT(AREA), 12, &there, &flags, &key_start, &key_end, &start, &size) == 0 && there == 0 && flags == 0 && key_end == 0);
     CHECK(zib_get(TEXT(AREA), 1, TEXT("ab"), &there, &start, &size) == 0 && there == 1 && start == 11 && size == 1);
     CHECK(zib_get(TEXT(AREA), 2, TEXT("ab"), &there, &start, &size) == ZIB_MALFORMED_AREA);
     CHECK(zib_set(NONE, 0, TEXT("ab"), TEXT("c"), a, sizeof a, &count, &n) == 0 && count == 1 && IS(a, n, AREA));
@@ -136,6 +140,39 @@ static void files(void)
     CHECK(zib_list_tag(NONE, text) == 11 && IS(text, 11, "items=none\n"));
 }
 
+/* A tag without a header: items, and a footer with their size, in one byte, and their count. */
+#define ITEMS(items, size, count) items "APETAGEX" "\xd0\7\0\0" size "\0\0\0" count "\0\0\0" "\0\0\0\0" "\0\0\0\0" "\0\0\0\0"
+/* key AB, with these flags and a value of one byte */
+#define FLAGGED(flags, value) "\1\0\0\0" flags "AB\0" value
+
+/* A picture: read, kept by every edit and brought back by undo; and which flags the gate turns away. */
+static void pictures(void)
+{
+    uint8_t area[256], file[256], one[512], two[512], gain[1] = {10};
+    uint32_t there = 7;
+    size_t count = 0, n = 0, m = 0, k = 0, peaks = 7, start = 7, end = 7;
+    CHECK(zib_read_ape_tag(TEXT(ITEMS(COVER AREA, "\x3c", "\2")), area, sizeof area, &there, &count, &n) == 0 && count == 2 && IS(area, n, COVER AREA));
+    CHECK(zib_replace_ape_tag(TEXT("audio"), area, n, count, file, sizeof file, &m) == 0 && m == 5 + 64 + 28);
+    CHECK(zib_gate(file, m, &start, &end, &count) == 0 && start == 37 && end == 65 && count == 2);
+    CHECK(zib_level(file, m, gain, 1, NONE, 5, 5, true, one, sizeof one, &n, &peaks) == 0 && memcmp(one + 37, COVER AREA, 28) == 0);
+    CHECK(zib_set_ape_item(one, n, TEXT("Title"), TEXT("Floor"), two, sizeof two, &k) == 0 && memcmp(two + 37, COVER AREA, 28) == 0);
+    CHECK(zib_remove_ape_item(two, k, TEXT("title"), one, sizeof one, &n) == 0);
+    CHECK(zib_undo(one, n, gain, 1, NONE, two, sizeof two, &k, &peaks) == 0 && gain[0] == 10 && k == m && memcmp(two, file, m) == 0);
+    CHECK(zib_set_ape_item(file, m, TEXT("Cover"), TEXT("x"), one, sizeof one, &n) == 0);
+    CHECK(memcmp(one + 37, "\1\0\0\0" "\1\0\0\0" "COVER\0" "x", 15) == 0); /* text now, and read-only still */
+    CHECK(zib_set(TEXT(COVER), 1, TEXT("cover"), TEXT("x"), one, sizeof one, &count, &n) == 0 && IS(one, n, "\1\0\0\0" "\1\0\0\0" "COVER\0" "x"));
+    CHECK(zib_get(TEXT(COVER), 1, TEXT("cover"), &there, &start, &end) == 0 && there == 1 && start == 14 && end == 2);
+    CHECK(zib_remove(TEXT(COVER AREA), 2, TEXT("ab"), one, sizeof one, &count, &n) == 0 && count == 1 && IS(one, n, COVER));
+    /* type 3 is read as text, and not edited; so are bits above bit 2 */
+    CHECK(zib_read_ape_tag(TEXT(ITEMS(FLAGGED("\6\0\0\0", "\xff"), "\x2c", "\1")), area, sizeof area, &there, &count, &n) == 0 && IS(area, n, "\3\0\0\0" "\6\0\0\0" "AB\0" "\xef\xbf\xbd"));
+    CHECK(zib_gate(TEXT(ITEMS(FLAGGED("\6\0\0\0", "x"), "\x2c", "\1")), &start, &end, &count) == ZIB_NOT_EDITABLE);
+    CHECK(zib_gate(TEXT(ITEMS(FLAGGED("\x8\0\0\0", "x"), "\x2c", "\1")), &start, &end, &count) == ZIB_NOT_EDITABLE);
+    CHECK(zib_gate(TEXT(ITEMS(FLAGGED("\0\0\0\x80", "x"), "\x2c", "\1")), &start, &end, &count) == ZIB_NOT_EDITABLE);
+    CHECK(zib_gate(TEXT(ITEMS(FLAGGED("\5\0\0\0", "\xff"), "\x2c", "\1")), &start, &end, &count) == ZIB_NOT_EDITABLE);
+    CHECK(zib_gate(TEXT(ITEMS(FLAGGED("\5\0\0\0", "x"), "\x2c", "\1")), &start, &end, &count) == 0 && count == 1);
+    CHECK(zib_gate(TEXT(ITEMS(FLAGGED("\3\0\0\0", "\xff"), "\x2c", "\1")), &start, &end, &count) == 0 && count == 1);
+}
+
 /* Every slice of every call as NULL with length 0. */
 static void empty(void)
 {
@@ -161,7 +198,7 @@ static void empty(void)
     CHECK(zib_shift_stored_value(TEXT("MP3GAIN_MINMAX"), TEXT("1,2"), 1, &flag, NONE, &a) == ZIB_NO_ROOM);
     CHECK(zib_parse_slip(NONE, &left, &right, &flag) == ZIB_MALFORMED_SLIP);
     CHECK(!zib_is_key(NONE) && zib_which_key(NONE) == 8);
-    CHECK(zib_item_at(NONE, 0, &there, &a, &b, &c, &d) == 0 && there == 0 && a == 0 && b == 0 && c == 0 && d == 0);
+    CHECK(zib_item_at(NONE, 0, &there, &flag, &a, &b, &c, &d) == 0 && there == 0 && flag == 0 && a == 0 && b == 0 && c == 0 && d == 0);
     CHECK(zib_get(NONE, 0, TEXT("AB"), &there, &a, &b) == 0 && there == 0);
     CHECK(zib_get(NONE, 0, NONE, &there, &a, &b) == ZIB_BAD_KEY && zib_get(NONE, 1, NONE, &there, &a, &b) == ZIB_MALFORMED_AREA);
     CHECK(zib_get_undo_gain(NONE, 0, &there, &left) == 0 && there == 0 && left == 0);
@@ -270,6 +307,7 @@ int main(void)
     values();
     items();
     files();
+    pictures();
     empty();
     rooms();
     limits();

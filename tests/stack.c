@@ -68,7 +68,7 @@ enum { CALLS = sizeof names / sizeof *names, WAYS = 3 };
 static void call(int which, int way, int tag)
 {
     static size_t a, b, c, d;
-    static uint32_t t;
+    static uint32_t t, f;
     static int32_t l, r;
     static uint64_t m, e;
     const uint8_t *k = (const uint8_t *)(way == 0 ? "MP3GAIN_UNDO" : way == 1 ? "new key here" : "FILLER\0\0\0\0\0\0"), *v = (const uint8_t *)"-3.500000 dB\xe2\x82\xac";
@@ -113,7 +113,7 @@ static void call(int which, int way, int tag)
     }
     case 12: zib_is_key(k, kn); break;
     case 13: zib_which_key(k, kn); break;
-    case 14: zib_item_at(area, area_len, 0, &t, &a, &b, &c, &d); break;
+    case 14: zib_item_at(area, area_len, 0, &t, &f, &a, &b, &c, &d); break;
     case 15: zib_get(area, area_len, count, k, kn, &t, &a, &b); break;
     case 16: zib_get_undo_gain(area, area_len, count, &t, &l); break;
     case 17: zib_set(area, area_len, count, k, kn, v, vn, out, sizeof out, &a, &b); break;

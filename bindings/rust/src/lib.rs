@@ -52,8 +52,7 @@ pub enum Refusal {
     TagTooLarge = 6,
     /// The list of left gains is empty.
     NoLeftGains = 7,
-    /// The file has a tag that does not pass the editing gate: it is damaged, too large, or has an item with flags, such as a picture. See
-    /// [`gate`].
+    /// The file has a tag that does not pass the editing gate: it is damaged, too large, or has an item of an unknown kind. See [`gate`].
     NotEditable = 8,
     /// The file was levelled before in the other [`Mode`].
     FlagDiffers = 9,
@@ -109,7 +108,7 @@ impl fmt::Display for Refusal {
                 )
             }
             Refusal::NoLeftGains => "there are no left gains",
-            Refusal::NotEditable => "the file's tag is damaged, too large, or has an item that is not plain text",
+            Refusal::NotEditable => "the file's tag is damaged or too large, or has an item of an unknown kind",
             Refusal::FlagDiffers => "the file was levelled with the other flag before",
             Refusal::NoUndo => "no undo is stored",
             Refusal::UndoOutOfRange => "an undo number would leave -32,768..32,767",
@@ -178,7 +177,7 @@ pub struct Steps {
 /// let mut items = Items::new();
 /// items.set(b"Title", b"Floor")?;
 /// assert_eq!(items.get(b"TITLE")?, Some(&b"Floor"[..]));
-/// assert_eq!(items.iter().collect::<Vec<_>>(), [(&b"TITLE"[..], &b"Floor"[..])]);
+/// assert!(items.iter().map(|item| (item.key(), item.value())).eq([(&b"TITLE"[..], &b"Floor"[..])]));
 /// items.remove(b"title")?;
 /// assert!(items.is_empty());
 /// # Ok::<(), zibrunnos::Refusal>(())
@@ -221,7 +220,7 @@ impl Items {
         &self.bytes
     }
 
-    /// The keys and values, in order.
+    /// The items, in order.
     pub fn iter(&self) -> Iter<'_> {
         Iter { area: &self.bytes, at: 0 }
     }
@@ -251,7 +250,7 @@ impl Items {
     }
 
     /// Sets the value of the first item with this key, which keeps its spelling and its place, or adds an item with the key in upper case
-    /// at the end.
+    /// at the end. What is set is text: an item that was binary or external is not so any more, and one that was read-only still is.
     pub fn set(&mut self, key: &[u8], value: &[u8]) -> Result<()> {
         // SAFETY: each pointer is that of a slice with the length beside it; the output is a new one.
         self.edit(9 + key.len() + value.len(), |a, l, n, out, room, items, written| unsafe {
@@ -346,7 +345,7 @@ impl Items {
     }
 
     /// Moves the stored ranges and gain texts by so many steps. A gain text of another form than `-3.480000 dB` stays as it is, and so do
-    /// peaks; where gains wrap, a range that would leave 0..255 is removed.
+    /// peaks; where gains wrap, a range that would leave 0..255 is removed. A value that moves is text, as one that is set.
     pub fn shift_stored_gain(&mut self, steps: i32, mode: Mode) -> Result<()> {
         // SAFETY: as in `set`. A value that moves has at most 32 bytes.
         self.edit(32 * self.count, |a, l, n, out, room, items, written| unsafe {
@@ -363,18 +362,73 @@ impl Items {
     }
 }
 
-/// Goes through an [`Items`]; each item is a key and a value.
+/// An item: its key, its value and its flags.
+///
+/// ```
+/// use zibrunnos::{read_tag, set_item};
+///
+/// let mut file = set_item(b"audio", b"Cover Art (front)", b"xx")?;
+/// let (item, footer) = (5 + 32, file.len() - 32);
+/// file[item + 4] = 3; // the flags of a binary item that is read-only
+/// file[footer - 1] = 0xFF; // the last byte of its value
+/// let items = read_tag(&file)?.expect("a tag");
+/// let cover = items.iter().next().expect("an item");
+/// assert_eq!((cover.key(), cover.value()), (&b"COVER ART (FRONT)"[..], &b"x\xff"[..]));
+/// assert_eq!(cover.flags(), 3);
+/// assert!(cover.is_binary() && cover.is_read_only() && !cover.is_external());
+/// # Ok::<(), zibrunnos::Refusal>(())
+/// ```
+#[derive(Clone, Copy, Debug, PartialEq, Eq)]
+pub struct Item<'a> {
+    key: &'a [u8],
+    value: &'a [u8],
+    flags: u32,
+}
+
+impl<'a> Item<'a> {
+    /// Its key, as it is spelled.
+    pub fn key(&self) -> &'a [u8] {
+        self.key
+    }
+
+    /// Its value: text, or the bytes of a picture where it [is binary](Item::is_binary).
+    pub fn value(&self) -> &'a [u8] {
+        self.value
+    }
+
+    /// Its flags: bit 0 says read-only, bits 2..1 are the type (0 text, 1 binary, 2 external, 3 reserved), and the others have no meaning.
+    pub fn flags(&self) -> u32 {
+        self.flags
+    }
+
+    /// Whether it says that it is read-only. No call heeds that: the bit is kept, and nothing is refused for it.
+    pub fn is_read_only(&self) -> bool {
+        self.flags & 1 == 1
+    }
+
+    /// Whether its value is not text, as that of a cover picture.
+    pub fn is_binary(&self) -> bool {
+        self.flags >> 1 & 3 == 1
+    }
+
+    /// Whether its value is a text that says where something else is, such as a link.
+    pub fn is_external(&self) -> bool {
+        self.flags >> 1 & 3 == 2
+    }
+}
+
+/// Goes through an [`Items`].
 pub struct Iter<'a> {
     area: &'a [u8],
     at: usize,
 }
 
 impl<'a> Iterator for Iter<'a> {
-    type Item = (&'a [u8], &'a [u8]);
+    type Item = Item<'a>;
 
-    fn next(&mut self) -> Option<Self::Item> {
+    fn next(&mut self) -> Option<Item<'a>> {
         let a = self.area;
-        let (mut there, mut key, mut key_end, mut value, mut value_end) = (0, 0, 0, 0, 0);
+        let (mut there, mut flags, mut key, mut key_end, mut value, mut value_end) = (0, 0, 0, 0, 0, 0);
         // SAFETY: the pointer is that of a slice with the length beside it.
         let reply = unsafe {
             raw::zib_item_at(
@@ -382,6 +436,7 @@ impl<'a> Iterator for Iter<'a> {
                 a.len(),
                 self.at,
                 &mut there,
+                &mut flags,
                 &mut key,
                 &mut key_end,
                 &mut value,
@@ -390,13 +445,13 @@ impl<'a> Iterator for Iter<'a> {
         };
         (reply == 0 && there == 1).then(|| {
             self.at = value_end;
-            (&a[key..key_end], &a[value..value_end])
+            Item { key: &a[key..key_end], value: &a[value..value_end], flags }
         })
     }
 }
 
 impl<'a> IntoIterator for &'a Items {
-    type Item = (&'a [u8], &'a [u8]);
+    type Item = Item<'a>;
     type IntoIter = Iter<'a>;
 
     fn into_iter(self) -> Iter<'a> {
@@ -406,8 +461,19 @@ impl<'a> IntoIterator for &'a Items {
 
 /// Reads the items of a file's tag; `None` where the file has no tag.
 ///
-/// The flags of the items are dropped, and each part of a key or value that is not UTF-8 becomes U+FFFD. So a picture that is read here and
-/// written back by [`replace_tag`] is lost; [`set_item`] and [`remove_item`] refuse a file with a picture.
+/// The items keep their flags, and the values of binary items are as they are in the file, so a picture that is read here and written back
+/// by [`replace_tag`] is whole. In keys and in all other values each part that is not UTF-8 becomes U+FFFD.
+///
+/// ```
+/// use zibrunnos::{read_tag, replace_tag, set_item};
+///
+/// let mut file = set_item(b"audio", b"Cover Art (front)", b"xx")?;
+/// let (item, footer) = (5 + 32, file.len() - 32);
+/// (file[item + 4], file[footer - 1]) = (2, 0xFF); // the flags of a binary item, and a value that is no text
+/// let items = read_tag(&file)?.expect("a tag");
+/// assert_eq!(replace_tag(&file, &items)?, file);
+/// # Ok::<(), zibrunnos::Refusal>(())
+/// ```
 pub fn read_tag(file: &[u8]) -> Result<Option<Items>> {
     let (mut there, mut count) = (0, 0);
     // SAFETY: each pointer is that of a slice with the length beside it; the output is a new one.
@@ -443,8 +509,9 @@ pub fn split_tag(file: &[u8]) -> Result<(&[u8], &[u8])> {
 
 /// Gives the items of a file that may be edited: no items where it has no tag. [`Refusal::NotEditable`] says that it may not.
 ///
-/// The tag must be of version 2000, start within the file, and hold exactly the items that its footer counts, all of them text in UTF-8
-/// without flags, and no more of them than [`ITEM_LIMIT`] and [`AREA_LIMIT`].
+/// The tag must be of version 2000, start within the file, have the header that its footer speaks of, and hold exactly the items that its
+/// footer counts, no more of them than [`ITEM_LIMIT`] and [`AREA_LIMIT`]. Each is text, binary or external, with no bit of its flags above
+/// bit 2; its key is UTF-8, and its value too unless it is binary.
 ///
 /// ```
 /// use zibrunnos::{gate, set_item, Refusal};
@@ -814,7 +881,7 @@ mod tests {
         other.drop_undone().unwrap();
         assert_eq!(other.len(), 3);
         items.take_mp3gain().unwrap();
-        assert_eq!(items.iter().collect::<Vec<_>>(), [(&b"AB"[..], &b"c"[..])]);
+        assert_eq!(items.iter().collect::<Vec<_>>(), [Item { key: b"AB", value: b"c", flags: 0 }]);
         assert_eq!(items.set(b"AB", b"\xff"), Err(Refusal::NotUtf8));
         assert_eq!(items.len(), 1);
         items.remove(b"aB").unwrap();

@@ -56,6 +56,7 @@ extern "C" {
         area_len: usize,
         at: usize,
         there: *mut u32,
+        flags: *mut u32,
         key_start: *mut usize,
         key_end: *mut usize,
         value_start: *mut usize,

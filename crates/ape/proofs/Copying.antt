@@ -30,21 +30,21 @@ one ts t = area-append ts (t ∷ []) ∙ rw append-nil
 
 module _ {s : List ℕ} {count : ℕ} {out₀ : List ℕ} {at left n o : ℕ} {out : List ℕ} (p : Progress s count out₀ at left n o out) where
   -- there is room for the next item
-  pub fits : {a b c d : ℕ} → Turn s at left a b c d → length (areaBytes (readItems count s)) ≤ length out₀
-      → o + length (itemBytes (converted (part a b s) (part c d s))) ≤ length out₀
+  pub fits : {g a b c d : ℕ} → Turn s at left g a b c d → length (areaBytes (readItems count s)) ≤ length out₀
+      → o + length (itemBytes (converted g (part a b s) (part c d s))) ≤ length out₀
   unfolding areaBytes
-  fits {a} {b} {c} {d} t h =
-      let x = converted (part a b s) (part c d s) in
+  fits {g} {a} {b} {c} {d} t h =
+      let x = converted g (part a b s) (part c d s) in
       let e : length (areaBytes (readItems count s)) ≡ length (areaBytes (p .written)) + (length (itemBytes x) + length (areaBytes (readItems (left - 1) (drop d s)))) =
       rw (p .list, t .list, area-append, length-append, length-append) in
       omega (arith, e, p .wrote .ends)
 
   -- and then it is written
-  pub turned : {a b c d r : ℕ} {ys : List ℕ} → Turn s at left a b c d
-      → let w = itemBytes (converted (part a b s) (part c d s)) in (r ≡ o + length w) × (ys ≡ splice out o w)
+  pub turned : {g a b c d r : ℕ} {ys : List ℕ} → Turn s at left g a b c d
+      → let w = itemBytes (converted g (part a b s) (part c d s)) in (r ≡ o + length w) × (ys ≡ splice out o w)
       → Progress s count out₀ d (left - 1) (n + 1) r ys
-  turned {a} {b} {c} {d} {r} {ys} t e =
-      let x = converted (part a b s) (part c d s) in
+  turned {g} {a} {b} {c} {d} {r} {ys} t e =
+      let x = converted g (part a b s) (part c d s) in
       record {
         written = p .written ++ (x ∷ []);
         list = p .list ∙ rw (t .list) (simp append-assoc);

@@ -11,7 +11,7 @@ use Rattle.frame.specs.Tail.{preamble, standsAt, endsWithId3v1, tagStart}
 use Rattle.frame.specs.declared.TagStart.{TagStart}
 use Rattle.frame.specs.declared.TagStart.the-variants.{At as StartAt, Nowhere as NoStart}
 use Rattle.lossy.specs.Lossy.{lossy}
-use Rattle.items.specs.Items.{Item, areaBytes, head}
+use Rattle.items.specs.Items.{Item, areaBytes, isBinary, head}
 use Rattle.ape.specs.declared.Footer.{Footer}
 use Rattle.ape.specs.declared.Footer.the-variants.{At, Nowhere}
 
@@ -77,14 +77,18 @@ areaAt s f = take (sizeAt s f - 32) (drop (f + 32 - sizeAt s f) s)
 
 -- ---- reading
 
--- an item of this key and value, both through `lossy`
-abbrev pub converted : List ℕ → List ℕ → Item
-converted key value = record { key = lossy key; value = lossy value }
+-- a value as it is read: a binary one as found, any other through `lossy`
+unfoldable pub readValue : ℕ → List ℕ → List ℕ
+readValue flags value = cond (isBinary flags) value (lossy value)
 
--- at most n items, until none is whole; flags become zero
+-- an item of these flags, this key and this value as it is read
+abbrev pub converted : ℕ → List ℕ → List ℕ → Item
+converted flags key value = record { key = lossy key; value = readValue flags value; flags = flags }
+
+-- at most n items, until none is whole
 unfoldable pub readItems : ℕ → List ℕ → List Item
 readItems zero s = []
-readItems (suc n) s = found (head s) [] (λ h. converted (h .item .key) (h .item .value) ∷ readItems n (h .rest))
+readItems (suc n) s = found (head s) [] (λ h. converted (h .item .flags) (h .item .key) (h .item .value) ∷ readItems n (h .rest))
 
 -- no tag without a footer, of another version, or where the size passes the footer's end; the header is not looked at
 unfoldable pub readTag : List ℕ → Option (List Item)

@@ -10,7 +10,7 @@ ghost use Rattle.frame.specs.Tail.{preamble};
 ghost use Rattle.utf8.specs.Utf8.{Classes};
 ghost use Rattle.lossy.specs.Write.{answer, within};
 ghost use Rattle.items.specs.Items.{areaBytes, itemBytes};
-ghost use Rattle.ape.specs.Tag.{findFooter, converted, readItems};
+ghost use Rattle.ape.specs.Tag.{findFooter, readValue, converted, readItems};
 ghost use Rattle.ape.specs.Answers.{footerPlan, footerAnswer, measuredAs, itemsPlan, readPlan, readAnswer, readBytes};
 use frame::TagStart;
 use items::Stepped;
@@ -101,32 +101,65 @@ pub fn find_ape_footer(file: &[u8]) -> FooterFound
     FooterFound::At(at)
 }
 
-// Writes an item, its key and value converted, into `out` from `at`, and answers where it ends. The texts come first: their length is
+// Writes a value as it is read into `out` from `at`, and answers where it ends.
+fn put_value(table: &[u8; 256], out: &mut [u8], at: usize, flags: u32, value: &[u8]) -> usize
+    requires { ⌜ (Classes (now table)) × (at + length (readValue flags (now value)) ≤ length (now out)) ⌝ }
+    ensures { λ r. ⌜ (let new = readValue flags (now (value .entry)) in
+        (r ≡ at + length new) × (now (out .exit) ≡ splice (now (out .entry)) at new)) ⌝ }
+{
+    if items::is_binary(flags) {
+        return lists::put(out, at, value);
+    }
+    lossy::lossy_put(table, out, at, value)
+}
+
+// How many bytes a value has as it is read, where that is at most `room`.
+fn value_size(table: &[u8; 256], flags: u32, value: &[u8], room: usize) -> Converted
+    requires { ⌜ Classes (now table) ⌝ }
+    ensures { λ r. ⌜ r ≡ answer (within room (readValue flags (now (value .entry)))) ⌝ }
+{
+    if !items::is_binary(flags) {
+        return lossy::lossy_within(table, value, room);
+    }
+    if room < value.len() {
+        return Converted::NoRoom;
+    }
+    Converted::Done(value.len())
+}
+
+// Writes an item, its key and value as they are read, into `out` from `at`, and answers where it ends. The texts come first: their length is
 // known only then.
-fn put_item(table: &[u8; 256], out: &mut [u8], at: usize, key: &[u8], value: &[u8]) -> usize
+fn put_item(
+    table: &[u8; 256],
+    out: &mut [u8],
+    at: usize,
+    flags: u32,
+    key: &[u8],
+    value: &[u8],
+) -> usize
     requires { ⌜ (Classes (now table)) × (length (now value) ≤ 16777216)
-        × (at + length (itemBytes (converted (now key) (now value))) ≤ length (now out)) ⌝ }
-    ensures { λ r. ⌜ (let new = itemBytes (converted (now (key .entry)) (now (value .entry))) in
+        × (at + length (itemBytes (converted flags (now key) (now value))) ≤ length (now out)) ⌝ }
+    ensures { λ r. ⌜ (let new = itemBytes (converted flags (now (key .entry)) (now (value .entry))) in
         (r ≡ at + length new) × (now (out .exit) ≡ splice (now (out .entry)) at new)) ⌝ }
 {
     let k = lossy::lossy_put(table, out, at + 8, key);
     let z = lists::put(out, k, b"\0");
-    let v = lossy::lossy_put(table, out, z, value);
-    lists::put_u32_le(out, at + 4, 0);
+    let v = put_value(table, out, z, flags, value);
+    lists::put_u32_le(out, at + 4, flags);
     lists::put_u32_le(out, at, (v - z) as u32);
     v
 }
 
 // How many bytes an item has once its key and value are converted, where that is at most `room`.
-fn converted_size(table: &[u8; 256], key: &[u8], value: &[u8], room: usize) -> Converted
+fn converted_size(table: &[u8; 256], flags: u32, key: &[u8], value: &[u8], room: usize) -> Converted
     requires { ⌜ Classes (now table) ⌝ }
-    ensures { λ r. ⌜ r ≡ answer (within room (itemBytes (converted (now (key .entry)) (now (value .entry))))) ⌝ }
+    ensures { λ r. ⌜ r ≡ answer (within room (itemBytes (converted flags (now (key .entry)) (now (value .entry))))) ⌝ }
 {
     let k = lossy::lossy_within(table, key, room);
     let Converted::Done(a) = k else {
         return Converted::NoRoom;
     };
-    let v = lossy::lossy_within(table, value, room - a);
+    let v = value_size(table, flags, value, room - a);
     let Converted::Done(b) = v else {
         return Converted::NoRoom;
     };
@@ -147,9 +180,9 @@ fn measure_items(table: &[u8; 256], items: &[u8], count: usize, room: usize) -> 
     let mut n = 0;
     let mut size = 0;
     while 0 < left {
-        let s = items::step_any(items, at);
+        let s = items::step(items, at);
         let Stepped::Item {
-            flags: _,
+            flags,
             key_start,
             key_end,
             value_start,
@@ -163,6 +196,7 @@ fn measure_items(table: &[u8; 256], items: &[u8], count: usize, room: usize) -> 
         };
         let z = converted_size(
             table,
+            flags,
             &items[key_start..key_end],
             &items[value_start..value_end],
             room - size,
@@ -192,9 +226,9 @@ fn write_items(table: &[u8; 256], items: &[u8], count: usize, out: &mut [u8]) ->
     let mut n = 0;
     let mut o = 0;
     while 0 < left {
-        let s = items::step_any(items, at);
+        let s = items::step(items, at);
         let Stepped::Item {
-            flags: _,
+            flags,
             key_start,
             key_end,
             value_start,
@@ -210,6 +244,7 @@ fn write_items(table: &[u8; 256], items: &[u8], count: usize, out: &mut [u8]) ->
             table,
             out,
             o,
+            flags,
             &items[key_start..key_end],
             &items[value_start..value_end],
         );

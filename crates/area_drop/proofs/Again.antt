@@ -3,6 +3,7 @@ use Prim.Native.Nat.{ℕ}
 use mathlib.Core.Path.{_≡_, refl, sym, _∙_}
 use mathlib.Core.Bool.{Bool, true, false}
 use mathlib.Core.List.{List}
+use Rattle.lists.specs.Bytes.{Small}
 use Rattle.lists.specs.Choice.{isSome}
 use Rattle.replies.specs.Refusal.{yes}
 use Rattle.keys.specs.Keys.{sameKey, isKey}
@@ -13,7 +14,7 @@ use Rattle.area_edit.proofs.Again.{Fine, fitted, clash}
 use Rattle.area_drop.specs.Drops.{removePlan, dropPlan}
 use Rattle.area_drop.proofs.Plans.{edit-12, edit-5, edit-yes, remove-12, remove-3, remove-good}
 
-module _ (n : ℕ) (s : List ℕ) (room : ℕ) (ts : List Item) where
+module _ (n : ℕ) (s : List ℕ) (small : Small s) (room : ℕ) (ts : List Item) where
   -- the area was well formed, and the items are its own without those that go
   pub drop-done : (p : List ℕ → Bool) → dropPlan p n s room ≡ yes ts → (isSome (parse n s) ≡ true) × (ts ≡ without p (itemsIn n s)) × Fine room ts
   drop-done p e = go (isSome (parse n s)) (fits room (without p (itemsIn n s))) refl refl
@@ -24,7 +25,7 @@ module _ (n : ℕ) (s : List ℕ) (room : ℕ) (ts : List Item) where
       go true true x y =
           let q : yes (without p (itemsIn n s)) ≡ yes ts = sym (edit-yes n s room (without p) x y) ∙ e in
           let i : without p (itemsIn n s) ≡ ts = cc in
-          (x, sym i, rw (← i) (fitted room (without p (itemsIn n s)) (sane-without p (itemsIn n s) (parse-sane n s)) y))
+          (x, sym i, rw (← i) (fitted room (without p (itemsIn n s)) (sane-without p (itemsIn n s) (parse-sane n s small)) y))
 
   pub remove-done : (key : List ℕ) → removePlan key n s room ≡ yes ts → (isSome (parse n s) ≡ true) × (ts ≡ without (sameKey key) (itemsIn n s)) × Fine room ts
   remove-done key e = go (isSome (parse n s)) (isKey key) refl refl

@@ -13,7 +13,7 @@ use Rattle.lists.specs.Bytes.{Small}
 use Rattle.lists.specs.Choice.{found, isSome}
 use Rattle.lists.specs.Write.{over, part}
 use Rattle.lists.proofs.Wrote.{Wrote, start, from-start}
-use Rattle.items.specs.Items.{Item, itemBytes, areaBytes, plainHead, parse, itemsIn, without}
+use Rattle.items.specs.Items.{Item, itemBytes, areaBytes, head as headOf, parse, itemsIn, without}
 use Rattle.items.proofs.Area.{length-item, length-area, parse-long, parse-stop, parse-end, parse-none}
 use Rattle.items.proofs.Walk.{Taken, fewer, key-part}
 use Rattle.items.proofs.Loops.{Left, begin, Turn, items-none}
@@ -48,10 +48,10 @@ module _ (p : List ℕ → Bool) where
   pub measure-long : (s : List ℕ) (count : ℕ) → length s < 9 * count → measuredOf (without p) count s ≡ Malformed
   measure-long s count h = rw (parse-long count s h)
 
-  pub measure-stop : (s : List ℕ) (at left n size : ℕ) → 0 < left → plainHead (drop at s) ≡ none → measured s at left n size ≡ Malformed
+  pub measure-stop : (s : List ℕ) (at left n size : ℕ) → 0 < left → headOf (drop at s) ≡ none → measured s at left n size ≡ Malformed
   measure-stop s at left n size h e = rw (parse-stop left (drop at s) h e)
 
-  module _ {s : List ℕ} {at g a b c d : ℕ} (left n size : ℕ) (t : Taken plainHead s at g a b c d) (more : 0 < left) {x : Bool} (e : x ≡ p (part a b s)) where
+  module _ {s : List ℕ} {at g a b c d : ℕ} (left n size : ℕ) (t : Taken s at g a b c d) (more : 0 < left) {x : Bool} (e : x ≡ p (part a b s)) where
     tested : (y : Bool) → x ≡ y → p (t .head .item .key) ≡ y
     tested y f = ap p (sym (key-part t)) ∙ sym e ∙ f
 

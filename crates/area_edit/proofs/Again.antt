@@ -9,6 +9,7 @@ use lib.ListN.{length, take}
 use lib.Seq.{take-at}
 use lib.Dec.{leb}
 use borrow.Author.Tests.{leb-true}
+use Rattle.lists.specs.Bytes.{Small}
 use Rattle.lists.specs.Choice.{isSome}
 use Rattle.lists.specs.Write.{over}
 use Rattle.replies.specs.Limits.{fileLimit}
@@ -61,7 +62,7 @@ fitted room ts s e =
 pub clash : {A : Type 0} {p : Plan (List Item)} {r : Refusal} {ts : List Item} → p ≡ yes ts → p ≡ no r → A
 clash e f = absurd (let z : _≡_ {A = ℕ} 0 1 = cc in omega arith)
 
-module _ (n : ℕ) (s : List ℕ) (room : ℕ) (ts : List Item) where
+module _ (n : ℕ) (s : List ℕ) (small : Small s) (room : ℕ) (ts : List Item) where
   pub set-done : (key value : List ℕ) → setPlan key value n s room ≡ yes ts → (isSome (parse n s) ≡ true) × (ts ≡ setItem key value (itemsIn n s)) × Fine room ts
   set-done key value e = go (isSome (parse n s)) (isKey key) (valid value) (fits room (setItem key value (itemsIn n s))) refl refl refl refl
     where
@@ -74,4 +75,4 @@ module _ (n : ℕ) (s : List ℕ) (room : ℕ) (ts : List Item) where
       go true true true true x y z w =
           let q : yes (setItem key value (itemsIn n s)) ≡ yes ts = sym (set-yes n s room key value x y z w) ∙ e in
           let i : setItem key value (itemsIn n s) ≡ ts = cc in
-          (x, sym i, rw (← i) (fitted room (setItem key value (itemsIn n s)) (sane-set key value (itemsIn n s) (sane-key key y) (parse-sane n s)) w))
+          (x, sym i, rw (← i) (fitted room (setItem key value (itemsIn n s)) (sane-set key value (itemsIn n s) (sane-key key y) (parse-sane n s small)) w))

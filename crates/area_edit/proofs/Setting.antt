@@ -4,14 +4,15 @@ use native.Mathlib.Omega.{arith}
 use mathlib.Core.Path.{_≡_, refl, sym, ap, _∙_}
 use mathlib.Core.Bool.{true, false, true≢false}
 use mathlib.Core.List.{List, [], _∷_, _++_, append-assoc, append-nil}
-use lib.ListN.{length, length-append}
+use lib.ListN.{length, drop, length-append}
+use lib.Seq.{drop-at}
 use Rattle.lists.specs.Bytes.{Small}
 use Rattle.lists.specs.Choice.{isSome}
-use Rattle.lists.specs.Le.{u32le}
+use Rattle.lists.specs.Le.{u32le, readU32}
 use Rattle.lists.specs.Write.{part}
 use Rattle.lists.proofs.Places.{part-is}
-use Rattle.keys.specs.Keys.{upperAll}
-use Rattle.items.specs.Items.{Item, itemBytes, areaBytes, parse, itemsIn, setItem}
+use Rattle.lists.proofs.Numbers.{read-drop}
+use Rattle.items.specs.Items.{Item, itemBytes, areaBytes, asText, parse, itemsIn, setItem, withValue, newItem}
 use Rattle.items.specs.Answers.{locateOf}
 use Rattle.items.specs.declared.Place.{Place}
 use Rattle.items.specs.declared.Place.the-variants.{At, Nowhere, Malformed}
@@ -21,19 +22,26 @@ use Rattle.items.proofs.Places.{Split, split, around, length-around, set-bytes,
 use Rattle.items.proofs.Finding.{There, there}
 use Rattle.area_edit.specs.Edits.{isMalformed, changed, fresh, replaced, appended}
 
+-- what is kept of the flags of an item that stands at the front
+kept-flags : (n g : ℕ) (r : List ℕ) → asText (readU32 (u32le n ++ (u32le g ++ r)) 4) ≡ asText g
+kept-flags n g r = omega arith
+
 -- an item that stands in s behind f, written with another value
 pub changed-item : (s f b : List ℕ) (t : Item) (value : List ℕ) (a k : ℕ) → s ≡ f ++ (itemBytes t ++ b) → a ≡ length f → k ≡ a + 8 + length (t .key)
-    → changed s a k value ≡ itemBytes (record { key = t .key; value = value })
+    → changed s a k value ≡ itemBytes (withValue value t)
 unfolding changed itemBytes
 changed-item s f b t value a k e start key-end =
     let n = u32le (length (t .value)) in
-    let m = u32le 0 ++ (t .key ++ (0 ∷ [])) in
-    let r : s ≡ (f ++ n) ++ (m ++ (t .value ++ b)) = e ∙ simp append-assoc in
-    let p : part (a + 4) (k + 1) s ≡ m = ap (part (a + 4) (k + 1)) r ∙ part-is (f ++ n) m _ (a + 4) (k + 1) (simp length-append (omega arith)) (simp length-append (omega arith)) in
-    let q : (u32le (length value) ++ part (a + 4) (k + 1) s) ++ value ≡ itemBytes (record { key = t .key; value = value }) = rw p (simp append-assoc) in
-    q
+    let g = u32le (t .flags) in
+    let m = t .key ++ (0 ∷ []) in
+    let r : s ≡ (f ++ (n ++ g)) ++ (m ++ (t .value ++ b)) = e ∙ simp append-assoc in
+    let p : part (a + 8) (k + 1) s ≡ m = ap (part (a + 8) (k + 1)) r ∙ part-is (f ++ (n ++ g)) m _ (a + 8) (k + 1) (simp length-append (omega arith)) (simp length-append (omega arith)) in
+    let d : drop a s ≡ n ++ (g ++ (m ++ (t .value ++ b))) = ap (drop a) e ∙ drop-at f (itemBytes t ++ b) a (sym start) ∙ simp append-assoc in
+    let h : asText (readU32 s (a + 4)) ≡ asText (t .flags)
+    = ap asText (sym (read-drop s a 4) ∙ ap (λ (l : List ℕ). readU32 l 4) d) ∙ kept-flags (length (t .value)) (t .flags) (m ++ (t .value ++ b)) in
+    rw (p, h) (simp append-assoc)
 
-pub fresh-item : (key value : List ℕ) → fresh key value ≡ itemBytes (record { key = upperAll key; value = value })
+pub fresh-item : (key value : List ℕ) → fresh key value ≡ itemBytes (newItem key value)
 unfolding fresh itemBytes
 fresh-item key value = simp append-assoc
 

@@ -5,14 +5,14 @@ use mathlib.Core.List.{List, [], _∷_, _++_}
 use lib.ListN.{length}
 use lib.Dec.{leb}
 use Rattle.lists.specs.Choice.{isSome}
-use Rattle.lists.specs.Le.{u32le}
+use Rattle.lists.specs.Le.{u32le, readU32}
 use Rattle.lists.specs.Write.{part}
 use Rattle.replies.specs.Limits.{fileLimit}
 use Rattle.replies.specs.Refusal.{Test, need, refusalOf, Plan, no, yes, planned}
 use Rattle.replies.specs.declared.Refusal.the-variants.{MalformedArea, BadKey, NotUtf8, NoRoom}
 use Rattle.utf8.specs.Utf8.{valid}
 use Rattle.keys.specs.Keys.{upperAll, isKey}
-use Rattle.items.specs.Items.{Item, areaBytes, parse, itemsIn, setItem}
+use Rattle.items.specs.Items.{Item, areaBytes, asText, parse, itemsIn, setItem}
 use Rattle.items.specs.declared.Place.{Place}
 use Rattle.items.specs.declared.Place.the-variants.{At, Nowhere, Malformed}
 use Rattle.area_edit.specs.declared.Edited.{Edited}
@@ -51,9 +51,9 @@ isMalformed Malformed = true
 
 -- ---- the bytes that set writes
 
--- the item of s from a, whose key ends at k, with another value
+-- the item of s from a, whose key ends at k, with another value, as text
 unfoldable pub changed : List ℕ → ℕ → ℕ → List ℕ → List ℕ
-changed s a k value = (u32le (length value) ++ part (a + 4) (k + 1) s) ++ value
+changed s a k value = ((u32le (length value) ++ u32le (asText (readU32 s (a + 4)))) ++ part (a + 8) (k + 1) s) ++ value
 
 -- an item, its key in upper case
 unfoldable pub fresh : List ℕ → List ℕ → List ℕ

@@ -63,7 +63,8 @@ pub fn measure_set(area: &[u8], count: usize, key: &[u8], value: &[u8], p: Place
     }
 }
 
-// Writes the item that begins at `start`, and whose key ends at `stop`, with another value into `out` from `at`.
+// Writes the item that begins at `start`, and whose key ends at `stop`, with another value into `out` from `at`: of
+// its flags, only bit 0 stays.
 pub fn put_changed(
     out: &mut [u8],
     at: usize,
@@ -78,8 +79,9 @@ pub fn put_changed(
         (r ≡ at + length new) × (now (out .exit) ≡ splice (now (out .entry)) at new) × (r ≡ at + (stop + 1 - start) + length (now (value .entry)))) ⌝ }
 {
     let a = lists::put_u32_le(out, at, value.len() as u32);
-    let b = lists::put_part(out, a, area, start + 4, stop + 1);
-    lists::put(out, b, value)
+    let b = lists::put_u32_le(out, a, items::as_text(frame::read_u32_le(area, start + 4)));
+    let c = lists::put_part(out, b, area, start + 8, stop + 1);
+    lists::put(out, c, value)
 }
 
 // Writes an item, its key in upper case, into `out` from `at`.

@@ -8,7 +8,7 @@ use mathlib.Core.List.{List, [], _∷_, map}
 use Rattle.lists.specs.Choice.{found}
 use Rattle.keys.specs.Keys.{upperAll, sameKey}
 use Rattle.keys.proofs.Keys.{key-sym, key-comm, key-upper, same-caseless}
-use Rattle.items.specs.Items.{Item, getItem, setItem, without, removeItem}
+use Rattle.items.specs.Items.{Item, getItem, withValue, setItem, without, removeItem}
 use Rattle.items.proofs.ItemLaws.{get-without}
 use Rattle.area_gains.specs.Gains.{setEach, capital}
 
@@ -16,7 +16,7 @@ use Rattle.area_gains.specs.Gains.{setEach, capital}
 unfoldable pub merged : List Item → List Item → List Item
 merged ps [] = map capital ps
 merged ps (t ∷ ts) =
-    found (getItem (t .key) ps) (t ∷ merged ps ts) (λ v. record { key = t .key; value = v } ∷ merged (removeItem (t .key) ps) ts)
+    found (getItem (t .key) ps) (t ∷ merged ps ts) (λ v. withValue v t ∷ merged (removeItem (t .key) ps) ts)
 
 -- no two keys are equal without case
 abbrev pub Apart : List Item → Type 0
@@ -48,7 +48,7 @@ unfolding merged
 merged-keep ps t ts e = rw e
 
 pub merged-take : (ps : List Item) (t : Item) (ts : List Item) (v : List ℕ) → getItem (t .key) ps ≡ some v
-    → merged ps (t ∷ ts) ≡ record { key = t .key; value = v } ∷ merged (removeItem (t .key) ps) ts
+    → merged ps (t ∷ ts) ≡ withValue v t ∷ merged (removeItem (t .key) ps) ts
 unfolding merged
 merged-take ps t ts v e = rw e
 
@@ -70,14 +70,14 @@ merged-set p ps (t ∷ ts) h = go (sameKey (p .key) (t .key)) (getItem (t .key) 
     go true o e g ih =
         let f : sameKey (t .key) (p .key) ≡ true = key-sym (p .key) (t .key) e in
         let n : getItem (t .key) ps ≡ none = get-same (t .key) (p .key) f ps ∙ h in
-        rw (f, e, n) (ap (λ (l : List Item). record { key = t .key; value = p .value } ∷ merged l ts) (remove-none (t .key) ps n))
+        rw (f, e, n) (ap (λ (l : List Item). withValue (p .value) t ∷ merged l ts) (remove-none (t .key) ps n))
     go false none e g ih =
         let f : sameKey (t .key) (p .key) ≡ false = key-comm (t .key) (p .key) ∙ e in
         rw (f, e, g) (ap (λ (l : List Item). t ∷ l) (ih ps h))
     go false (some v) e g ih =
         let f : sameKey (t .key) (p .key) ≡ false = key-comm (t .key) (p .key) ∙ e in
         let k : getItem (p .key) (removeItem (t .key) ps) ≡ none = get-without (sameKey (t .key)) (same-caseless (t .key)) (p .key) ps f ∙ h in
-        rw (f, e, g) (ap (λ (l : List Item). record { key = t .key; value = v } ∷ l) (ih (removeItem (t .key) ps) k))
+        rw (f, e, g) (ap (λ (l : List Item). withValue v t ∷ l) (ih (removeItem (t .key) ps) k))
 
 -- set one after another is one pass
 pub merged-each : (ps ts : List Item) → Apart ps → setEach ps ts ≡ merged ps ts

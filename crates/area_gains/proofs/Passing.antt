@@ -10,7 +10,7 @@ use Rattle.lists.specs.Bytes.{Small}
 use Rattle.lists.specs.Choice.{isSome}
 use Rattle.lists.specs.Write.{part}
 use Rattle.keys.specs.Keys.{keys}
-use Rattle.items.specs.Items.{Item, itemBytes, areaBytes, sizeOf, parse, itemsIn}
+use Rattle.items.specs.Items.{Item, itemBytes, areaBytes, sizeOf, parse, itemsIn, withValue}
 use Rattle.items.proofs.Area.{length-item, length-area, area-append}
 use Rattle.items.proofs.Loops.{Left, begin, Turn, items-none}
 use Rattle.area_edit.specs.Edits.{changed}
@@ -83,7 +83,7 @@ module _ {s : List ℕ} {count : ℕ} {vs : List (List ℕ)} {at left : ℕ} {m 
     last-few = omega (arith, x .passed, few done)
 
   -- the bytes of an item with another value, as the code writes them
-  pub new-bytes : {a b c d : ℕ} (t : Turn s at left a b c d) → Small s → (v : List ℕ) → changed s at b v ≡ itemBytes (record { key = t .item .key; value = v })
+  pub new-bytes : {a b c d : ℕ} (t : Turn s at left a b c d) → Small s → (v : List ℕ) → changed s at b v ≡ itemBytes (withValue v (t .item))
   new-bytes {a} {b} {c} {d} t sm v =
       let r : s ≡ take at s ++ (itemBytes (t .item) ++ drop (d - at) (drop at s)) =
       sym (take-append-drop at s) ∙ ap (λ (l : List ℕ). take at s ++ l) (sym (take-append-drop (d - at) (drop at s)) ∙ ap (λ (l : List ℕ). l ++ drop (d - at) (drop at s)) (t .bytes sm)) in
@@ -114,7 +114,7 @@ module _ {s : List ℕ} {count : ℕ} {vs : List (List ℕ)} {at left : ℕ} {m 
 
     -- the item gets the text at its place
     abbrev pub new : Item
-    new = record { key = t .item .key; value = getD vs i [] }
+    new = withValue (getD vs i []) (t .item)
 
     waiting : y ≡ true → Waits m vs (x .five) (x .many) (t .item .key)
     waiting f = is-marked m vs (x .five) (x .many) (t .item .key) (ap (λ (j : ℕ). getD m j false) (sym placed) ∙ sym e ∙ f)

@@ -11,7 +11,7 @@ use Rattle.lists.specs.Choice.{isSome}
 use Rattle.lists.specs.Write.{over, splice, part}
 use Rattle.lists.proofs.Wrote.{Wrote, start, next, from-start}
 use Rattle.replies.specs.Limits.{fileLimit}
-use Rattle.items.specs.Items.{Item, areaBytes, sizeOf, parse, itemsIn}
+use Rattle.items.specs.Items.{Item, areaBytes, sizeOf, parse, itemsIn, withValue}
 use Rattle.items.proofs.Loops.{Turn}
 use Rattle.area_edit.specs.Edits.{changed}
 use Rattle.area_gains.specs.Gains.{setEach, gainKeys, marked, marks, present, gainPlace, added, capped}
@@ -44,9 +44,9 @@ module _ {s : List ℕ} {count : ℕ} {vs : List (List ℕ)} {at left : ℕ} {m 
     pub measure-set : y ≡ true → (v : List ℕ) → v ≡ getD vs i [] → (r : ℕ) → r ≡ capped (size + (c - at + length v)) → Measuring s count vs d (left - 1) (set m i false) r
     measure-set f v h r g =
         record {
-          done = x .done ++ (record { key = t .item .key; value = getD vs i [] } ∷ []);
+          done = x .done ++ (withValue (getD vs i []) (t .item) ∷ []);
           pass = pass-set (x .pass) t left-one p e f;
-          sized = grows (record { key = t .item .key; value = getD vs i [] }) (c - at + length v) r (omega (arith, t .value-start, t .key-end, ap length h)) g;
+          sized = grows (withValue (getD vs i []) (t .item)) (c - at + length v) r (omega (arith, t .value-start, t .key-end, ap length h)) g;
         }
 
 -- ---- the loop that writes
@@ -100,13 +100,13 @@ module _ {s : List ℕ} {count : ℕ} {vs : List (List ℕ)} {out₀ out : List 
 
     pub set-room : y ≡ true → (v : List ℕ) → v ≡ getD vs i [] → (n : ℕ) → length (areaBytes (setEach (present vs) (itemsIn count s))) ≤ n → o + (b + 1 - at) + length v ≤ n
     set-room f v h n r =
-        omega (arith, room (record { key = t .item .key; value = getD vs i [] }) (pass-set (x .pass) t left-one p e f) n r, t .key-end, ap length h)
+        omega (arith, room (withValue (getD vs i []) (t .item)) (pass-set (x .pass) t left-one p e f) n r, t .key-end, ap length h)
 
     pub write-set : y ≡ true → Small s → (v : List ℕ) → v ≡ getD vs i [] → (o′ : ℕ) (out′ : List ℕ) → length out′ ≡ length out
         → (o′ ≡ o + length (changed s at b v)) × (out′ ≡ splice out o (changed s at b v)) → Writing s count vs out₀ out′ d (left - 1) (set m i false) o′
     write-set f sm v h o′ out′ l w =
         record {
-          done = x .done ++ (record { key = t .item .key; value = getD vs i [] } ∷ []);
+          done = x .done ++ (withValue (getD vs i []) (t .item) ∷ []);
           pass = pass-set (x .pass) t left-one p e f;
           wrote = rw (snoc-bytes, ← h, ← new-bytes (x .pass) t sm v) (next (x .wrote) (changed s at b v) w);
           long = l ∙ x .long;

@@ -10,7 +10,7 @@ use Rattle.replies.specs.Refusal.{need, Plan}
 use Rattle.replies.specs.declared.Refusal.the-variants.{NotUtf8}
 use Rattle.utf8.specs.Utf8.{valid}
 use Rattle.keys.specs.Keys.{upperAll, whichOf, keys}
-use Rattle.items.specs.Items.{Item, areaBytes, setItem}
+use Rattle.items.specs.Items.{Item, areaBytes, setItem, textItem, newItem}
 use Rattle.area_edit.specs.Edits.{edited}
 
 -- the items of the first list, set one after another
@@ -27,7 +27,7 @@ unfoldable pub marked : List (List ℕ) → List Bool → List (List ℕ) → Li
 marked [] bs vs = []
 marked (k ∷ ks) [] vs = []
 marked (k ∷ ks) (b ∷ bs) [] = []
-marked (k ∷ ks) (b ∷ bs) (v ∷ vs) = cond b (record { key = k; value = v } ∷ marked ks bs vs) (marked ks bs vs)
+marked (k ∷ ks) (b ∷ bs) (v ∷ vs) = cond b (textItem k v ∷ marked ks bs vs) (marked ks bs vs)
 
 -- a text is set unless it is empty
 abbrev pub marks : List (List ℕ) → List Bool
@@ -54,7 +54,7 @@ gainPlace key = found (whichOf gainKeys key) 5 (λ i. i)
 
 -- as an item is appended
 abbrev pub capital : Item → Item
-capital p = record { key = upperAll (p .key); value = p .value }
+capital p = newItem (p .key) (p .value)
 
 -- the bytes of the marked texts as they are appended
 unfoldable pub added : List (List ℕ) → List Bool → List (List ℕ) → List ℕ

@@ -4,7 +4,7 @@ use native.Mathlib.Nat.{zero-add, add-zero}
 use native.Mathlib.Omega.{arith}
 use mathlib.Core.Path.{_≡_, refl, sym, ap, _∙_}
 use mathlib.Core.Bool.{Bool, true, false}
-use mathlib.Core.Option.{Option, none, some, Option·getD}
+use mathlib.Core.Option.{Option, none, some}
 use mathlib.Core.List.{List, [], _∷_, _++_, map, append-assoc, append-nil}
 use lib.ListN.{length, take, drop, length-append, take-append-drop}
 use lib.Seq.{length-take-le}
@@ -12,10 +12,9 @@ use lib.Dec.{leb}
 use lib.IntN.{ℤ}
 use borrow.Author.Tests.{le-leb, lt-leb, leb-true, leb-false}
 use Rattle.lists.specs.Bytes.{Small}
-use Rattle.lists.specs.Choice.{isSome}
-use Rattle.lists.specs.Le.{u32le}
+use Rattle.lists.specs.Choice.{found, isSome}
 use Rattle.lists.specs.Write.{over, part}
-use Rattle.lists.proofs.Places.{part-is, length-part}
+use Rattle.lists.proofs.Places.{length-part}
 use Rattle.lists.proofs.Wrote.{Wrote, start, from-start}
 use Rattle.replies.specs.Limits.{fileLimit}
 use Rattle.replies.specs.Refusal.{need, no, yes}
@@ -29,11 +28,12 @@ use Rattle.decimal.proofs.Texts.{Moved, moved-is, stays-is, text-within}
 use Rattle.values.specs.Stored.{shiftStored}
 use Rattle.values.proofs.Texts.{stored-short}
 use Rattle.slip.specs.Slip.{isStep}
-use Rattle.items.specs.Items.{Item, itemBytes, areaBytes, sizeOf, parse, itemsIn}
+use Rattle.items.specs.Items.{Item, itemBytes, areaBytes, sizeOf, parse, itemsIn, withValue}
 use Rattle.items.proofs.Area.{length-item, length-area, count-items, area-length}
 use Rattle.items.proofs.Loops.{Left, begin, Turn, items-none}
-use Rattle.area_edit.specs.Edits.{fits, edited}
+use Rattle.area_edit.specs.Edits.{fits, edited, changed}
 use Rattle.area_edit.proofs.Plans.{fits-yes, fits-room, fits-long}
+use Rattle.area_edit.proofs.Setting.{changed-item}
 use Rattle.calls.specs.Calls.{staying, shiftItem, shiftStoredGain}
 use Rattle.area_shift.specs.Shift.{goes, shiftedBytes, shiftPlan}
 
@@ -78,7 +78,7 @@ module _ (m : GainMode) (steps : ℤ) where
   unfolding shiftItem
   shift-size t = go (shiftStored (t .key) (t .value) steps) refl
     where
-      go : (o : Option (List ℕ)) → shiftStored (t .key) (t .value) steps ≡ o → 9 + length (t .key) + length (Option·getD o (t .value)) ≤ sizeOf t + 32
+      go : (o : Option (List ℕ)) → shiftStored (t .key) (t .value) steps ≡ o → sizeOf (found o t (λ w. withValue w t)) ≤ sizeOf t + 32
       go none e = omega arith
       go (some w) e = omega (arith, stored-short (t .key) (t .value) steps w e .size)
 
@@ -99,7 +99,7 @@ module _ (steps : ℤ) (s : List ℕ) (a k e : ℕ) where
   bytes-found q = rw q
 
   pub bytes-moved : (w : List ℕ) → shiftStored (part (a + 8) k s) (part (k + 1) e s) steps ≡ some w
-      → shiftedBytes steps s a k e ≡ (u32le (length w) ++ part (a + 4) (k + 1) s) ++ w
+      → shiftedBytes steps s a k e ≡ changed s a k w
   unfolding shiftedBytes
   bytes-moved w q = rw q
 
@@ -113,46 +113,34 @@ module _ (steps : ℤ) (s : List ℕ) (a k e : ℕ) where
 
     pub moved-size : x .moved ≡ true → a + 8 ≤ k → k < e → e ≤ length s
         → (length (shiftedBytes steps s a k e) ≡ k + 1 - a + x .text .len) × (x .text .len ≤ 21) × (x .text .len ≤ length (x .text .bytes))
+    unfolding changed
     moved-size f h i j =
         let m = moved-text f in
         let n : x .text .len ≡ length (m .w) = ap (λ (t : Text). t .len) (m .text) in
-        let l = length-part (a + 4) (k + 1) s (omega arith) in
+        let l = length-part (a + 8) (k + 1) s (omega arith) in
         (rw (bytes-moved (m .w) (m .is)) (simp length-append (omega arith)), omega (arith, stored-short _ _ steps (m .w) (m .is) .size), text-within (x .text) (m .w) (m .text))
 
--- ---- room for an item as found, and for the parts of one with a new text of t bytes
+-- ---- room for an item as found
 
 pub kept-room : (at k e n o m : ℕ) {z : ℕ} → at + 8 ≤ k → k < e → e ≤ n → z ≡ e - at → o + z ≤ m → (at ≤ e) × (e ≤ n) × (o + (e - at) ≤ m)
 kept-room at k e n o m h i j q r = (omega arith, j, omega arith)
 
-module _ (at k e n o m t : ℕ) {z : ℕ} (h : at + 8 ≤ k) (i : k < e) (j : e ≤ n) (q : z ≡ k + 1 - at + t) (r : o + z ≤ m) where
-  pub room-size : o + 4 ≤ m
-  room-size = omega arith
-
-  module _ {x : ℕ} {y : ℕ} (u : x ≡ o + 4) (v : y ≡ m) where
-    pub room-middle : (at + 4 ≤ k + 1) × (k + 1 ≤ n) × (x + (k + 1 - (at + 4)) ≤ y)
-    room-middle = (omega arith, omega arith, omega arith)
-
-    pub room-text : {b w : ℕ} → b ≡ x + (k + 1 - (at + 4)) → w ≡ y → b + (t - 0) ≤ w
-    room-text f g = omega arith
+-- ---- and for one with a new text of t bytes
+pub moved-room : (at k e n o m t : ℕ) {z : ℕ} → at + 8 ≤ k → k < e → e ≤ n → z ≡ k + 1 - at + t → o + z ≤ m → t ≤ 21
+    → (at + 8 ≤ k) × (k < n) × (t ≤ fileLimit) × (o + (k + 1 - at) + t ≤ m)
+moved-room at k e n o m t h i j q r u = (h, omega arith, omega arith, omega arith)
 
 -- ---- the bytes of a turn's item
 
 module _ (steps : ℤ) {s : List ℕ} {at left a b c d : ℕ} (t : Turn s at left a b c d) (small : Small s) where
-  -- flags, key and its zero byte
-  middle : part (at + 4) (b + 1) s ≡ u32le 0 ++ (t .item .key ++ (0 ∷ []))
-  middle =
-      let v = t .item .value in
-      let f = take at s in
-      let r = drop (d - at) (drop at s) in
-      let m = u32le 0 ++ (t .item .key ++ (0 ∷ [])) in
-      let l : length f ≡ at = length-take-le at s (omega (arith, t .end, t .rest .within)) in
-      let h : s ≡ (f ++ u32le (length v)) ++ (m ++ (v ++ r)) =
-      sym (take-append-drop at s) ∙ ap (λ (x : List ℕ). f ++ x) (sym (take-append-drop (d - at) (drop at s)) ∙ ap (λ (x : List ℕ). x ++ r) (t .bytes small)) ∙ unfold itemBytes in simp append-assoc in
-      ap (part (at + 4) (b + 1)) h
-      ∙ part-is (f ++ u32le (length v)) m (v ++ r) (at + 4) (b + 1) (simp length-append (omega arith)) (simp length-append (omega (arith, t .key-end)))
+  -- what precedes it and what follows it
+  around : s ≡ take at s ++ (itemBytes (t .item) ++ drop (d - at) (drop at s))
+  around =
+      sym (take-append-drop at s)
+      ∙ ap (λ (x : List ℕ). take at s ++ x) (sym (take-append-drop (d - at) (drop at s)) ∙ ap (λ (x : List ℕ). x ++ drop (d - at) (drop at s)) (t .bytes small))
 
   pub item-shifted : shiftedBytes steps s at b d ≡ itemBytes (shiftItem steps (t .item))
-  unfolding shiftItem itemBytes
+  unfolding shiftItem
   item-shifted = go (shiftStored (t .item .key) (t .item .value) steps) refl
     where
       stored : (o : Option (List ℕ)) → shiftStored (t .item .key) (t .item .value) steps ≡ o → shiftStored (part (at + 8) b s) (part (b + 1) d s) steps ≡ o
@@ -160,7 +148,10 @@ module _ (steps : ℤ) {s : List ℕ} {at left a b c d : ℕ} (t : Turn s at lef
 
       go : (o : Option (List ℕ)) → shiftStored (t .item .key) (t .item .value) steps ≡ o → shiftedBytes steps s at b d ≡ itemBytes (shiftItem steps (t .item))
       go none e = bytes-found steps s at b d (stored none e) ∙ t .bytes small ∙ rw e
-      go (some w) e = bytes-moved steps s at b d w (stored (some w) e) ∙ rw (middle, e) (simp append-assoc)
+      go (some w) e =
+          bytes-moved steps s at b d w (stored (some w) e)
+          ∙ changed-item s (take at s) _ (t .item) w at b around (sym (length-take-le at s (omega (arith, t .end, t .rest .within)))) (t .key-end)
+          ∙ rw e
 
 module _ (m : GainMode) (steps : ℤ) where
   -- what the shift leaves of items

@@ -52,9 +52,7 @@ fn put_item(
     let text = s.text;
     let n = text.len;
     let bytes = text.bytes;
-    let a = lists::put_u32_le(out, o, n as u32);
-    let b = lists::put_part(out, a, area, at + 4, value);
-    lists::put_part(out, b, &bytes, 0, n)
+    area_edit::put_changed(out, o, area, at, stop, &bytes[0..n])
 }
 
 // Writes what the shift leaves of a well-formed area to the front of `out`.

@@ -2,7 +2,7 @@
 use Prim.Native.Nat.{ℕ, _+_, _-_, _≤_, _<_}
 use native.Mathlib.Omega.{arith}
 use mathlib.Core.Path.{_≡_, refl, sym, ap, _∙_}
-use mathlib.Core.Bool.{true, false, _&&_, and-false}
+use mathlib.Core.Bool.{Bool, true, false, _||_, and-false}
 use mathlib.Core.Option.{Option, none, some}
 use mathlib.Core.List.{List, [], _∷_, _++_, append-assoc, append-nil}
 use lib.ListN.{length, take, drop, length-append}
@@ -17,13 +17,14 @@ use Rattle.frame.specs.declared.TagStart.the-variants.{At as StartAt}
 use Rattle.frame.proofs.Tails.{stands-in, stands-before, start-there, start-headed}
 use Rattle.utf8.specs.Utf8.{valid}
 use Rattle.lossy.proofs.Laws.{lossy-valid}
-use Rattle.items.specs.Items.{Item, itemBytes, areaBytes}
-use Rattle.items.proofs.Area.{AllSane, parse-area, head-item, length-item, plain}
-use Rattle.ape.specs.Tag.{blockBytes, headerFlags, footerFlags, tagBytes, serialize, findFooter, versionAt, sizeAt, countAt, areaAt, readItems, readTag, moved, split, fileOf, replaced}
+use Rattle.items.specs.Items.{Item, itemBytes, areaBytes, isBinary}
+use Rattle.items.proofs.Area.{AllSane, parse-area, head-item, length-item}
+use Rattle.ape.specs.Tag.{blockBytes, headerFlags, footerFlags, tagBytes, serialize, findFooter, versionAt, sizeAt, countAt, areaAt, readValue, readItems, readTag, moved, split, fileOf, replaced}
 use Rattle.ape.specs.declared.Footer.{Footer}
 use Rattle.ape.specs.declared.Footer.the-variants.{At, Nowhere}
 use Rattle.ape.proofs.Files.{length-block}
-use Rattle.calls.specs.Gate.{headerAt, fit, allValid, gateItems, passesGate, itemsOf}
+use Rattle.ape.proofs.Reading.{binary-value, text-value}
+use Rattle.calls.specs.Gate.{headerAt, fit, flagsFit, itemValid, allValid, gateItems, passesGate, itemsOf}
 use Rattle.calls.proofs.Lists.{both}
 use Rattle.book.proofs.Sound.{Back, bare, id3, Good, Sound}
 
@@ -264,18 +265,27 @@ law-items front ts back s = rw (law-gate front ts back s)
 
 -- ---- reading
 
--- items that are UTF-8 are read as they were written
+-- a value that the gate passes is read as it was written
+value-read : (flags : ℕ) (value : List ℕ) → (isBinary flags || valid value) ≡ true → readValue flags value ≡ value
+value-read flags value v = go (isBinary flags) refl v
+  where
+    go : (b : Bool) → isBinary flags ≡ b → (b || valid value) ≡ true → readValue flags value ≡ value
+    go true e v = binary-value flags value e
+    go false e v = text-value flags value e ∙ lossy-valid value v
+
+-- items that the gate passes are read as they were written
 pub read-area : (ts : List Item) → AllSane ts → allValid ts ≡ true → length (areaBytes ts) < 4294967296 → readItems (length ts) (areaBytes ts) ≡ ts
-unfolding readItems areaBytes allValid
+unfolding readItems areaBytes itemValid allValid
 read-area [] ok v h = refl
 read-area (t ∷ ts) ok v h =
     let l : length (itemBytes t) + length (areaBytes ts) < 4294967296 = rw length-append at h in
-    let (a, b) = both (valid (t .key) && valid (t .value)) (allValid ts) v in
-    let (c, d) = both (valid (t .key)) (valid (t .value)) a in
+    let (a, b) = both (itemValid t) (allValid ts) v in
+    let (_, e) = both (flagsFit (t .flags)) _ a in
+    let (c, d) = both (valid (t .key)) _ e in
     rw (
-      plain _ _ (head-item t (areaBytes ts) (ok .0) (omega (arith, length-item t))) .0,
+      head-item t (areaBytes ts) (ok .0) (omega (arith, length-item t)),
       lossy-valid (t .key) c,
-      lossy-valid (t .value) d,
+      value-read (t .flags) (t .value) d,
       read-area ts (ok .1) b (omega arith),
     )
 

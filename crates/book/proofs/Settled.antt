@@ -20,7 +20,7 @@ use Rattle.frame.specs.declared.TagStart.the-variants.{At as StartAt, Nowhere a
 use Rattle.frame.proofs.Tails.{stands-in, start-there}
 use Rattle.items.specs.Items.{Item, areaBytes, parse, itemsIn}
 use Rattle.items.proofs.Area.{AllSane, count-items, area-length}
-use Rattle.items.proofs.ItemLaws.{parse-sane}
+use Rattle.items.proofs.ItemLaws.{parse-keys, sane-both}
 use Rattle.ape.specs.Tag.{blockBytes, tagBytes, serialize, findFooter, started, sizeAt, countAt, areaAt, readTag, Split, moved, split, fileOf, replaced}
 use Rattle.ape.specs.declared.Footer.{Footer}
 use Rattle.ape.specs.declared.Footer.the-variants.{At, Nowhere}
@@ -29,6 +29,7 @@ use Rattle.calls.specs.Gate.{allValid, gateItems, passesGate, itemsOf}
 use Rattle.book.specs.Book.{settled, Book, bookOf, bookFile}
 use Rattle.calls.proofs.Lists.{both}
 use Rattle.calls.proofs.Gates.{gate-footer, fit-tests}
+use Rattle.calls.proofs.Items.{valid-flags}
 use Rattle.book.proofs.Sound.{Back, bare, id3, Good, Sound}
 use Rattle.book.proofs.Reading.{law-split, law-gate, law-passes, law-items, law-replaced, law-read, asRead, Headed, law-header}
 
@@ -195,12 +196,12 @@ area-long : (s : List ℕ) (f : ℕ) → length (areaAt s f) ≤ sizeAt s f - 32
 unfolding areaAt
 area-long s f = rw length-take (omega arith)
 
--- what was parsed can be written
-parsed : (n : ℕ) (s : List ℕ) (ts : List Item) → parse n s ≡ some ts → AllSane ts × (length ts ≡ n) × (length (areaBytes ts) ≡ length s)
-parsed n s ts e =
+-- what was parsed, and is valid, can be written
+parsed : (n : ℕ) (s : List ℕ) (ts : List Item) → parse n s ≡ some ts → allValid ts ≡ true → AllSane ts × (length ts ≡ n) × (length (areaBytes ts) ≡ length s)
+parsed n s ts e v =
     let i : itemsIn n s ≡ ts = rw e in
     let k : isSome (parse n s) ≡ true = rw e in
-    (rw (← i) (parse-sane n s), rw (← i) (count-items n s k), rw (← i) (area-length n s k))
+    (sane-both ts (rw (← i) (parse-keys n s)) (valid-flags ts v), rw (← i) (count-items n s k), rw (← i) (area-length n s k))
 
 gated : (s : List ℕ) (f : ℕ) → findFooter s ≡ At f → passesGate s ≡ true → Gated s f (itemsOf s)
 gated s f e g =
@@ -208,7 +209,7 @@ gated s f e g =
     let t = fit-tests s f c in
     let q = start-there s f (footer-within s f e) in
     let (a, b, r) = start-of f (sizeAt s f) (readU32 s (f + 20)) (rw q at (t .2)) (t .1) in
-    let (x, y, z) = parsed (countAt s f) (areaAt s f) (itemsOf s) p in
+    let (x, y, z) = parsed (countAt s f) (areaAt s f) (itemsOf s) p v in
     record {
       start = a;
       starts = q ∙ b;

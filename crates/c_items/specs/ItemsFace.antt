@@ -17,20 +17,22 @@ abbrev pub placeFace : Which → ℕ
 placeFace (Key i) = i
 placeFace Other = 8
 
--- a step: the reply, whether an item is there, and where its key and its value start and end
+-- a step: the reply, whether an item is there, its flags, and where its key and its value start and end
 pub record ItemFace : Type 0 where
   pub reply : ℕ
   pub there : ℕ
+  pub flags : ℕ
   pub keyStart : ℕ
   pub keyEnd : ℕ
   pub valueStart : ℕ
   pub valueEnd : ℕ
 
 -- from the answer of the step, and what the lent numbers held
-abbrev pub itemFace : Stepped → ℕ → ℕ → ℕ → ℕ → ℕ → ItemFace
-itemFace (Item flags a b c d) there ks ke vs ve = record { reply = 0; there = 1; keyStart = a; keyEnd = b; valueStart = c; valueEnd = d }
-itemFace End there ks ke vs ve = record { reply = 0; there = 0; keyStart = 0; keyEnd = 0; valueStart = 0; valueEnd = 0 }
-itemFace Malformed there ks ke vs ve = record { reply = numberOf MalformedArea; there = there; keyStart = ks; keyEnd = ke; valueStart = vs; valueEnd = ve }
+abbrev pub itemFace : Stepped → ℕ → ℕ → ℕ → ℕ → ℕ → ℕ → ItemFace
+itemFace (Item f a b c d) there flags ks ke vs ve = record { reply = 0; there = 1; flags = f; keyStart = a; keyEnd = b; valueStart = c; valueEnd = d }
+itemFace End there flags ks ke vs ve = record { reply = 0; there = 0; flags = 0; keyStart = 0; keyEnd = 0; valueStart = 0; valueEnd = 0 }
+itemFace Malformed there flags ks ke vs ve =
+    record { reply = numberOf MalformedArea; there = there; flags = flags; keyStart = ks; keyEnd = ke; valueStart = vs; valueEnd = ve }
 
 -- get: the reply, whether a value is there, where it starts, and how long it is
 pub record FoundFace : Type 0 where

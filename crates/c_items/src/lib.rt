@@ -37,25 +37,28 @@ pub extern "C" fn zib_item_at(
     area: &[u8],
     at: usize,
     there: &mut u32,
+    flags: &mut u32,
     key_start: &mut usize,
     key_end: &mut usize,
     value_start: &mut usize,
     value_end: &mut usize,
 ) -> u32
-    ensures { λ r. ⌜ (let face = itemFace (stepOf (now (area .entry)) at) (now (there .entry)) (now («key_start» .entry)) (now («key_end» .entry)) (now («value_start» .entry)) (now («value_end» .entry)) in
-        (r ≡ face .reply) × (now (there .exit) ≡ face .there) × (now («key_start» .exit) ≡ face .keyStart) × (now («key_end» .exit) ≡ face .keyEnd)
-        × (now («value_start» .exit) ≡ face .valueStart) × (now («value_end» .exit) ≡ face .valueEnd)) ⌝ }
+    ensures { λ r. ⌜ (let face = itemFace (stepOf (now (area .entry)) at) (now (there .entry)) (now (flags .entry)) (now («key_start» .entry)) (now («key_end» .entry)) (now («value_start» .entry))
+        (now («value_end» .entry)) in
+        (r ≡ face .reply) × (now (there .exit) ≡ face .there) × (now (flags .exit) ≡ face .flags) × (now («key_start» .exit) ≡ face .keyStart)
+        × (now («key_end» .exit) ≡ face .keyEnd) × (now («value_start» .exit) ≡ face .valueStart) × (now («value_end» .exit) ≡ face .valueEnd)) ⌝ }
 {
     let s = items::step(area, at);
     match s {
         Stepped::Item {
-            flags: _,
+            flags: f,
             key_start: a,
             key_end: b,
             value_start: c,
             value_end: d,
         } => {
             *there = 1;
+            *flags = f;
             *key_start = a;
             *key_end = b;
             *value_start = c;
@@ -64,6 +67,7 @@ pub extern "C" fn zib_item_at(
         }
         Stepped::End => {
             *there = 0;
+            *flags = 0;
             *key_start = 0;
             *key_end = 0;
             *value_start = 0;

@@ -14,14 +14,14 @@ use Rattle.frame.specs.Gain.{adjust}
 use Rattle.frame.specs.Tail.{standsAt, startOf, tagStart}
 use Rattle.utf8.specs.Utf8.{numberOf, classAt, run, stepOf, validFrom, valid}
 use Rattle.lossy.specs.Lossy.{lossyFrom, lossy}
-use Rattle.items.specs.Items.{itemBytes, areaBytes, headAt, head, plainHead, parse, getItem, setItem, without}
-use Rattle.ape.specs.Tag.{blockBytes, tagBytes, serialize, findFooter, areaAt, readItems, readTag, moved, split, fileOf, replaced}
-use Rattle.calls.specs.Gate.{headerAt, fit, allValid, gateItems, passesGate, itemsOf, tagFits}
+use Rattle.items.specs.Items.{itemBytes, areaBytes, headAt, head, parse, getItem, setItem, without}
+use Rattle.ape.specs.Tag.{blockBytes, tagBytes, serialize, findFooter, areaAt, readValue, readItems, readTag, moved, split, fileOf, replaced}
+use Rattle.calls.specs.Gate.{headerAt, fit, itemValid, allValid, gateItems, passesGate, itemsOf, tagFits}
 use Rattle.calls.specs.Calls.{setPlan, removePlan, staying, shiftItem, shiftStoredGain, storedUndo, booked, least, greatest, shiftedItems, levelItems, countOf, isPeakKey, levelPlan, others, undoPlan}
 use Rattle.calls.specs.Figures.{Figures, Examples}
 
 pub figures : Figures
-unfolding all same startsWith placeOf upper upperAll sameKey whichOf keys whichKey isFrom undoKey minmaxKey before behind field isDigit digitsFrom natural isMinus unsigned whole i32 u8 isSpace trimLeft keep trimRight trim places decimal signed remaining nearest fraction millionths parseGain formatGain shiftGain formatRange parseRange shiftRange leaves wrapsOut kindOf rangeWrapsOut shiftStored formatUndo parseUndo undoWraps accumulated adjust standsAt startOf tagStart numberOf classAt run stepOf lossyFrom lossy validFrom valid itemBytes areaBytes headAt head plainHead parse getItem setItem without blockBytes tagBytes serialize findFooter areaAt moved split fileOf replaced headerAt fit allValid gateItems passesGate itemsOf tagFits staying shiftItem shiftStoredGain storedUndo booked least greatest shiftedItems levelItems countOf isPeakKey levelPlan others undoPlan
+unfolding all same startsWith placeOf upper upperAll sameKey whichOf keys whichKey isFrom undoKey minmaxKey before behind field isDigit digitsFrom natural isMinus unsigned whole i32 u8 isSpace trimLeft keep trimRight trim places decimal signed remaining nearest fraction millionths parseGain formatGain shiftGain formatRange parseRange shiftRange leaves wrapsOut kindOf rangeWrapsOut shiftStored formatUndo parseUndo undoWraps accumulated adjust standsAt startOf tagStart numberOf classAt run stepOf lossyFrom lossy validFrom valid itemBytes areaBytes headAt head parse getItem setItem without blockBytes tagBytes serialize findFooter areaAt moved split fileOf replaced headerAt fit itemValid allValid gateItems passesGate itemsOf tagFits staying shiftItem shiftStoredGain storedUndo booked least greatest shiftedItems levelItems countOf isPeakKey levelPlan others undoPlan
 figures = record {
   undo-n = refl;
   undo-w = refl;
@@ -52,7 +52,7 @@ figures = record {
 }
 
 pub examples : Examples
-unfolding all same startsWith placeOf upper upperAll sameKey whichOf keys whichKey isFrom undoKey minmaxKey isReserved isKey before behind field isDigit digitsFrom natural isMinus unsigned whole i32 u8 isSpace trimLeft keep trimRight trim places decimal signed remaining nearest fraction millionths parseGain formatGain shiftGain formatRange parseRange shiftRange leaves wrapsOut kindOf rangeWrapsOut shiftStored formatUndo parseUndo undoWraps accumulated adjust standsAt startOf tagStart numberOf classAt run stepOf lossyFrom lossy validFrom valid itemBytes areaBytes headAt head plainHead parse getItem setItem without blockBytes tagBytes serialize findFooter areaAt readItems readTag moved split fileOf replaced headerAt fit allValid gateItems passesGate itemsOf tagFits setPlan removePlan staying shiftItem shiftStoredGain storedUndo booked least greatest shiftedItems levelItems countOf isPeakKey levelPlan others undoPlan
+unfolding all same startsWith placeOf upper upperAll sameKey whichOf keys whichKey isFrom undoKey minmaxKey isReserved isKey before behind field isDigit digitsFrom natural isMinus unsigned whole i32 u8 isSpace trimLeft keep trimRight trim places decimal signed remaining nearest fraction millionths parseGain formatGain shiftGain formatRange parseRange shiftRange leaves wrapsOut kindOf rangeWrapsOut shiftStored formatUndo parseUndo undoWraps accumulated adjust standsAt startOf tagStart numberOf classAt run stepOf lossyFrom lossy validFrom valid itemBytes areaBytes headAt head parse getItem setItem without blockBytes tagBytes serialize findFooter areaAt readValue readItems readTag moved split fileOf replaced headerAt fit itemValid allValid gateItems passesGate itemsOf tagFits setPlan removePlan staying shiftItem shiftStoredGain storedUndo booked least greatest shiftedItems levelItems countOf isPeakKey levelPlan others undoPlan
 examples = record {
   two = refl;
   three = refl;
@@ -66,6 +66,15 @@ examples = record {
   seven = refl;
   eight = refl;
   eight-utf8 = refl;
+  eight-binary = refl;
+  eight-key = refl;
+  eight-external = refl;
+  eight-reserved = refl;
+  eight-stray = refl;
+  set-flags = refl;
+  shift-flags = refl;
+  read-binary = refl;
+  read-reserved = refl;
   eight-header = refl;
   eight-version = refl;
   eight-size = refl;

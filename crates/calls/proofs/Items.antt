@@ -2,12 +2,12 @@
 use Prim.Native.Nat.{ℕ, _+_}
 use native.Mathlib.Omega.{arith}
 use mathlib.Core.Path.{_≡_, refl, sym, ap, _∙_}
-use mathlib.Core.Bool.{Bool, true, false, _&&_, cond, true≢false}
-use mathlib.Core.Option.{Option, none, some, Option·getD}
+use mathlib.Core.Bool.{Bool, true, false, cond, true≢false}
+use mathlib.Core.Option.{Option, none, some}
 use mathlib.Core.List.{List, [], _∷_, map}
-use lib.Dec.{leb}
+use lib.Dec.{leb, ltb}
 use lib.IntN.{ℤ}
-use borrow.Author.Tests.{le-leb}
+use borrow.Author.Tests.{le-leb, lt-ltb, ltb-true}
 use Rattle.lists.specs.Bytes.{all, same}
 use Rattle.lists.specs.Choice.{found}
 use Rattle.frame.specs.declared.GainMode.{GainMode}
@@ -19,12 +19,12 @@ use Rattle.values.specs.Stored.{kindOf, wrapsOutBy, rangeWrapsOut, shiftStored}
 use Rattle.values.specs.declared.Kind.the-variants.{Other}
 use Rattle.values.proofs.ReadBack.{plain-undo, plain-range}
 use Rattle.values.proofs.Texts.{stored-short}
-use Rattle.items.specs.Items.{Item, getItem, setItem, without}
-use Rattle.items.proofs.Area.{AllSane}
-use Rattle.items.proofs.ItemLaws.{set-inside, without-less, sane-without, sane-set}
-use Rattle.calls.specs.Gate.{allValid}
+use Rattle.items.specs.Items.{Item, typeOf, isBinary, asText, getItem, withValue, setItem, without}
+use Rattle.items.proofs.Area.{Sane, AllSane}
+use Rattle.items.proofs.ItemLaws.{FlagsSane, set-inside, without-less, sane-without, sane-set}
+use Rattle.calls.specs.Gate.{flagsFit, itemValid, allValid}
 use Rattle.calls.specs.Calls.{Level, staying, shiftItem, shiftStoredGain, booked, wraps, rangeOf, sameStep, shiftedItems, levelItems, countOf, others}
-use Rattle.calls.proofs.Lists.{both, and-of}
+use Rattle.calls.proofs.Lists.{both, and-of, or-of}
 use Rattle.calls.proofs.Texts.{plain-valid}
 
 -- ---- items of none of the eight keys
@@ -56,7 +56,19 @@ none-got (t ∷ ts) e = go (isMp3gainKey (t .key)) refl e (none-got ts)
     go true q e ih = absurd (omega arith)
     go false q e ih = rw (not-by-undo (t .key) q) (ih (omega arith))
 
--- ---- UTF-8
+-- ---- what the gate asks of items
+
+-- flags of text fit
+text-fits : (flags : ℕ) → flagsFit (asText flags) ≡ true
+text-fits flags = and-of (le-leb (typeOf (asText flags)) 2 (omega arith)) (lt-ltb (asText flags) 8 (omega arith))
+
+-- an item with another value, which is UTF-8
+valid-value : (value : List ℕ) (t : Item) → valid value ≡ true → itemValid t ≡ true → itemValid (withValue value t) ≡ true
+unfolding itemValid
+valid-value value t v h =
+    let (_, k) = both (flagsFit (t .flags)) _ h in
+    let (a, _) = both (valid (t .key)) _ k in
+    and-of (text-fits (t .flags)) (and-of a (or-of (isBinary (asText (t .flags))) v))
 
 pub valid-without : (p : List ℕ → Bool) (ts : List Item) → allValid ts ≡ true → allValid (without p ts) ≡ true
 unfolding allValid without
@@ -64,20 +76,28 @@ valid-without p [] v = refl
 valid-without p (t ∷ ts) v = go (p (t .key)) refl (valid-without p ts)
   where
     go : (b : Bool) → p (t .key) ≡ b → (allValid ts ≡ true → allValid (without p ts) ≡ true) → allValid (without p (t ∷ ts)) ≡ true
-    go true q ih = rw q (ih (both (valid (t .key) && valid (t .value)) (allValid ts) v .1))
-    go false q ih = let (a, b) = both (valid (t .key) && valid (t .value)) (allValid ts) v in rw q (and-of a (ih b))
+    go true q ih = rw q (ih (both (itemValid t) (allValid ts) v .1))
+    go false q ih = let (a, b) = both (itemValid t) (allValid ts) v in rw q (and-of a (ih b))
 
 pub valid-set : (key value : List ℕ) (ts : List Item) → valid (upperAll key) ≡ true → valid value ≡ true → allValid ts ≡ true
     → allValid (setItem key value ts) ≡ true
-unfolding allValid setItem
+unfolding itemValid allValid setItem
 valid-set key value [] k v h = rw (k, v)
 valid-set key value (t ∷ ts) k v h = go (sameKey key (t .key)) refl (valid-set key value ts k v)
   where
     go : (b : Bool) → sameKey key (t .key) ≡ b → (allValid ts ≡ true → allValid (setItem key value ts) ≡ true) → allValid (setItem key value (t ∷ ts)) ≡ true
-    go true q ih =
-        let (a, c) = both (valid (t .key) && valid (t .value)) (allValid ts) h in
-        rw q (and-of (and-of (both (valid (t .key)) (valid (t .value)) a .0) v) c)
-    go false q ih = let (a, c) = both (valid (t .key) && valid (t .value)) (allValid ts) h in rw q (and-of a (ih c))
+    go true q ih = let (a, c) = both (itemValid t) (allValid ts) h in rw q (and-of (valid-value value t v a) c)
+    go false q ih = let (a, c) = both (itemValid t) (allValid ts) h in rw q (and-of a (ih c))
+
+-- their flags are numbers of four bytes
+pub valid-flags : (ts : List Item) → allValid ts ≡ true → FlagsSane ts
+unfolding itemValid allValid
+valid-flags [] v = tt
+valid-flags (t ∷ ts) v =
+    let (a, b) = both (itemValid t) (allValid ts) v in
+    let (f, _) = both (flagsFit (t .flags)) _ a in
+    let (_, n) = both (leb (typeOf (t .flags)) 2) (ltb (t .flags) 8) f in
+    (omega (arith, ltb-true (t .flags) 8 n), valid-flags ts b)
 
 -- ---- the shift of stored values: it touches only items of the eight keys
 
@@ -113,14 +133,23 @@ shift-other : (z : ℤ) (t : Item) → isMp3gainKey (t .key) ≡ false → shift
 unfolding shiftItem shiftStored
 shift-other z t e = rw (other-kind (t .key) e)
 
+-- keys stay as they are
+shift-key : (z : ℤ) (t : Item) → (shiftItem z t) .key ≡ t .key
+unfolding shiftItem
+shift-key z t = go (shiftStored (t .key) (t .value) z)
+  where
+    go : (o : Option (List ℕ)) → (found o t (λ w. withValue w t)) .key ≡ t .key
+    go none = refl
+    go (some w) = refl
+
 map-others : (z : ℤ) (ts : List Item) → others (map (shiftItem z) ts) ≡ others ts
 unfolding others without
 map-others z [] = refl
 map-others z (t ∷ ts) = go (isMp3gainKey (t .key)) refl (map-others z ts)
   where
     go : (a : Bool) → isMp3gainKey (t .key) ≡ a → others (map (shiftItem z) ts) ≡ others ts → others (map (shiftItem z) (t ∷ ts)) ≡ others (t ∷ ts)
-    go true e ih = unfold shiftItem in rw e ih
-    go false e ih = rw (shift-other z t e, ih)
+    go true e ih = rw (shift-key z t, e) ih
+    go false e ih = rw (shift-other z t e, e, ih)
 
 pub shift-others : (m : GainMode) (z : ℤ) (ts : List Item) → others (shiftStoredGain m z ts) ≡ others ts
 unfolding shiftStoredGain
@@ -128,20 +157,18 @@ shift-others m z ts = map-others z (staying m z ts) ∙ staying-others m z ts
 
 -- ---- and its texts are UTF-8
 
-value-valid : (z : ℤ) (key s : List ℕ) → valid s ≡ true → valid (Option·getD (shiftStored key s z) s) ≡ true
-value-valid z key s v = go (shiftStored key s z) refl
+item-valid : (z : ℤ) (t : Item) → itemValid t ≡ true → itemValid (shiftItem z t) ≡ true
+unfolding shiftItem
+item-valid z t v = go (shiftStored (t .key) (t .value) z) refl
   where
-    go : (o : Option (List ℕ)) → shiftStored key s z ≡ o → valid (Option·getD o s) ≡ true
+    go : (o : Option (List ℕ)) → shiftStored (t .key) (t .value) z ≡ o → itemValid (found o t (λ w. withValue w t)) ≡ true
     go none e = v
-    go (some w) e = plain-valid w (stored-short key s z w e .plain)
+    go (some w) e = valid-value w t (plain-valid w (stored-short (t .key) (t .value) z w e .plain)) v
 
 map-valid : (z : ℤ) (ts : List Item) → allValid ts ≡ true → allValid (map (shiftItem z) ts) ≡ true
-unfolding shiftItem allValid
+unfolding allValid
 map-valid z [] v = refl
-map-valid z (t ∷ ts) v =
-    let (a, b) = both (valid (t .key) && valid (t .value)) (allValid ts) v in
-    let (c, d) = both (valid (t .key)) (valid (t .value)) a in
-    and-of (and-of c (value-valid z (t .key) (t .value) d)) (map-valid z ts b)
+map-valid z (t ∷ ts) v = let (a, b) = both (itemValid t) (allValid ts) v in and-of (item-valid z t a) (map-valid z ts b)
 
 staying-valid : (m : GainMode) (z : ℤ) (ts : List Item) → allValid ts ≡ true → allValid (staying m z ts) ≡ true
 unfolding staying allValid
@@ -150,18 +177,24 @@ staying-valid Wrapping z [] v = refl
 staying-valid Wrapping z (t ∷ ts) v = go (rangeWrapsOut (t .key) (t .value) z) (staying-valid Wrapping z ts)
   where
     go : (a : Bool) → (allValid ts ≡ true → allValid (staying Wrapping z ts) ≡ true) → allValid (cond a (staying Wrapping z ts) (t ∷ staying Wrapping z ts)) ≡ true
-    go true ih = ih (both (valid (t .key) && valid (t .value)) (allValid ts) v .1)
-    go false ih = let (a, b) = both (valid (t .key) && valid (t .value)) (allValid ts) v in and-of a (ih b)
+    go true ih = ih (both (itemValid t) (allValid ts) v .1)
+    go false ih = let (a, b) = both (itemValid t) (allValid ts) v in and-of a (ih b)
 
 pub shift-valid : (m : GainMode) (z : ℤ) (ts : List Item) → allValid ts ≡ true → allValid (shiftStoredGain m z ts) ≡ true
 unfolding shiftStoredGain
 shift-valid m z ts v = map-valid z (staying m z ts) (staying-valid m z ts v)
 
--- keys stay as they are
-map-sane : (z : ℤ) (ts : List Item) → AllSane ts → AllSane (map (shiftItem z) ts)
+item-sane : (z : ℤ) (t : Item) → Sane t → Sane (shiftItem z t)
 unfolding shiftItem
+item-sane z t s = go (shiftStored (t .key) (t .value) z)
+  where
+    go : (o : Option (List ℕ)) → Sane (found o t (λ w. withValue w t))
+    go none = s
+    go (some w) = (s .0, omega arith)
+
+map-sane : (z : ℤ) (ts : List Item) → AllSane ts → AllSane (map (shiftItem z) ts)
 map-sane z [] s = tt
-map-sane z (t ∷ ts) (s, r) = (s, map-sane z ts r)
+map-sane z (t ∷ ts) (s, r) = (item-sane z t s, map-sane z ts r)
 
 staying-sane : (m : GainMode) (z : ℤ) (ts : List Item) → AllSane ts → AllSane (staying m z ts)
 unfolding staying

@@ -2,4 +2,5 @@ pub mod Lists
 pub mod Gates
 pub mod Texts
 pub mod Items
+pub mod Plain
 pub mod Figures

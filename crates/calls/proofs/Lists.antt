@@ -1,6 +1,6 @@
 -- Tests and answers taken apart.
 use mathlib.Core.Path.{_≡_, refl}
-use mathlib.Core.Bool.{Bool, true, false, _&&_, cond, and-eq-true-iff}
+use mathlib.Core.Bool.{Bool, true, false, _&&_, _||_, cond, and-eq-true-iff}
 use mathlib.Core.Option.{Option, none, some, Option·none-ne-some}
 use Rattle.lists.specs.Choice.{provided}
 
@@ -9,6 +9,10 @@ both a b e = and-eq-true-iff a b .0 e
 
 pub and-of : {a b : Bool} → a ≡ true → b ≡ true → (a && b) ≡ true
 and-of {a} {b} p q = rw (p, q)
+
+pub or-of : (a : Bool) {b : Bool} → b ≡ true → (a || b) ≡ true
+or-of true q = refl
+or-of false q = q
 
 -- an answer under a test
 pub cond-some : {A : Type 0} (t : Bool) (o : Option A) (r : A) → cond t o none ≡ some r → (t ≡ true) × (o ≡ some r)

@@ -30,7 +30,7 @@ use Rattle.values.specs.Undo.{formatUndo, parseUndo, undoWraps, accumulated}
 use Rattle.values.specs.Range.{formatRange}
 use Rattle.values.specs.Stored.{rangeWrapsOut, shiftStored}
 use Rattle.slip.specs.Slip.{isStep}
-use Rattle.items.specs.Items.{Item, getItem, setItem, without, removeItem}
+use Rattle.items.specs.Items.{Item, getItem, withValue, setItem, without, removeItem}
 use Rattle.ape.specs.Tag.{replaced}
 use Rattle.ape.specs.Answers.{lentFits, roomFor}
 use Rattle.calls.specs.Gate.{passesGate, itemsOf, tagFits}
@@ -85,9 +85,9 @@ staying Wrapping steps [] = []
 staying Wrapping steps (t ∷ ts) =
     cond (rangeWrapsOut (t .key) (t .value) steps) (staying Wrapping steps ts) (t ∷ staying Wrapping steps ts)
 
--- the new text, or the value as found
+-- the new text, which counts as set, or the item as found
 unfoldable pub shiftItem : ℤ → Item → Item
-shiftItem steps t = record { key = t .key; value = Option·getD (shiftStored (t .key) (t .value) steps) (t .value) }
+shiftItem steps t = found (shiftStored (t .key) (t .value) steps) t (λ v. withValue v t)
 
 -- first drop, then shift
 unfoldable pub shiftStoredGain : GainMode → ℤ → List Item → List Item

@@ -29,15 +29,19 @@ use Rattle.lossy.specs.Lossy.{mark, lossy}
 use Rattle.values.specs.Undo.{formatUndo, parseUndo}
 use Rattle.values.specs.Stored.{shiftStored, rangeWrapsOut}
 use Rattle.decibels.specs.Gain.{shiftGain}
-use Rattle.items.specs.Items.{Item, areaBytes}
+use Rattle.items.specs.Items.{Item, areaBytes, textItem}
 use Rattle.ape.specs.Tag.{headerFlags, footerFlags, sizeAt, serialize, readTag, replaced}
 use Rattle.calls.specs.Calls.{Level, setPlan, removePlan, shiftStoredGain, levelPlan, undoPlan}
 
 -- ---- what the figures are about
 
--- an item of a quoted key and a quoted value
+-- an item of these flags
+abbrev pub flagged : ℕ → List ℕ → List ℕ → Item
+flagged flags key value = record { key = key; value = value; flags = flags }
+
+-- a text item of a quoted key and a quoted value
 abbrev pub item : List ℕ → List ℕ → Item
-item key value = record { key = key; value = value }
+item key value = textItem key value
 
 -- key `AB`, value `c`
 abbrev pub ab : List Item
@@ -160,6 +164,19 @@ pub record Examples : Type 0 where
   -- 8: footer version 1000
   pub eight : removePlan version1000 (ascii "AB") 1000 ≡ no NotEditable
   pub eight-utf8 : removePlan (serialize (item (ascii "AB") (0xFF ∷ []) ∷ [])) (ascii "CD") 1000 ≡ no NotEditable
+  -- 8: a value that is not UTF-8, which a binary one may be; a key may not; a reserved type; a stray bit
+  pub eight-binary : removePlan (serialize (flagged 2 (ascii "AB") (0xFF ∷ []) ∷ [])) (ascii "CD") 1000 ≡ yes (serialize (flagged 2 (ascii "AB") (0xFF ∷ []) ∷ []))
+  pub eight-key : removePlan (serialize (flagged 2 (0xFF ∷ []) (ascii "c") ∷ [])) (ascii "CD") 1000 ≡ no NotEditable
+  pub eight-external : removePlan (serialize (flagged 5 (ascii "AB") (0xFF ∷ []) ∷ [])) (ascii "CD") 1000 ≡ no NotEditable
+  pub eight-reserved : removePlan (serialize (flagged 6 (ascii "AB") (ascii "c") ∷ [])) (ascii "CD") 1000 ≡ no NotEditable
+  pub eight-stray : removePlan (serialize (flagged 8 (ascii "AB") (ascii "c") ∷ [])) (ascii "CD") 1000 ≡ no NotEditable
+  -- set keeps bit 0 and clears all other bits; a shifted value counts as set, and one that stays keeps its flags
+  pub set-flags : setPlan (serialize (flagged 3 (ascii "AB") (0xFF ∷ []) ∷ [])) (ascii "ab") (ascii "c") 1000 ≡ yes (serialize (flagged 1 (ascii "AB") (ascii "c") ∷ []))
+  pub shift-flags : shiftStoredGain Saturating (pos 100) (flagged 3 (ascii "MP3GAIN_MINMAX") (ascii "094,168") ∷ flagged 3 (ascii "MP3GAIN_MINMAX") (ascii "x") ∷ [])
+      ≡ flagged 1 (ascii "MP3GAIN_MINMAX") (ascii "194,255") ∷ flagged 3 (ascii "MP3GAIN_MINMAX") (ascii "x") ∷ []
+  -- a binary value is read as found; one of the reserved type is converted like text
+  pub read-binary : readTag (serialize (flagged 2 (ascii "AB") (0xFF ∷ []) ∷ [])) ≡ some (flagged 2 (ascii "AB") (0xFF ∷ []) ∷ [])
+  pub read-reserved : readTag (serialize (flagged 6 (ascii "AB") (0xFF ∷ []) ∷ [])) ≡ some (flagged 6 (ascii "AB") mark ∷ [])
   -- 8: bit 31 is set, and the 32 bytes before the items are no header, or one of another version, size or count, or without bit 29
   pub eight-header : removePlan (headedBy sound) (ascii "AB") 1000 ≡ no NotEditable
   pub eight-version : removePlan (headedBy (block 1000 44 1 headerFlags)) (ascii "AB") 1000 ≡ no NotEditable

@@ -1,17 +1,17 @@
 -- The editing gate (document 01, "Level and undo"; its test of the header is document 02's, request 4), and refusal 6's limits of a tag.
 use Prim.Native.Nat.{ℕ, _+_, _/_, _%_}
-use mathlib.Core.Bool.{Bool, true, false, _&&_, cond}
+use mathlib.Core.Bool.{Bool, true, false, _&&_, _||_, cond}
 use mathlib.Core.Option.{Option, none, some}
 use mathlib.Core.List.{List, [], _∷_}
 use lib.ListN.{length, drop}
-use lib.Dec.{leb, eqb}
+use lib.Dec.{ltb, leb, eqb}
 use Rattle.lists.specs.Bytes.{startsWith}
 use Rattle.lists.specs.Choice.{found, provided, isSome}
 use Rattle.lists.specs.Le.{readU32}
 use Rattle.replies.specs.Limits.{countLimit, areaLimit}
 use Rattle.frame.specs.Tail.{preamble, hasHeader, tagStart}
 use Rattle.utf8.specs.Utf8.{valid}
-use Rattle.items.specs.Items.{Item, areaBytes, parse}
+use Rattle.items.specs.Items.{Item, areaBytes, typeOf, isBinary, parse}
 use Rattle.ape.specs.Tag.{findFooter, footed, started, versionAt, sizeAt, countAt, areaAt}
 
 -- ---- what the gate asks of the footer that stands at f
@@ -56,14 +56,22 @@ fit s f = isVersion2 s f && (countsFooter s f && (hasStart s f && (countFits s f
 
 -- ---- what it asks of the items
 
--- UTF-8 keys and values
+-- types 0 to 2, and no bit beside those of the type and read-only
+abbrev pub flagsFit : ℕ → Bool
+flagsFit flags = leb (typeOf flags) 2 && ltb flags 8
+
+-- such flags, a UTF-8 key, and a UTF-8 value unless it is binary
+unfoldable pub itemValid : Item → Bool
+itemValid t = flagsFit (t .flags) && (valid (t .key) && (isBinary (t .flags) || valid (t .value)))
+
+-- every item
 unfoldable pub allValid : List Item → Bool
 allValid [] = true
-allValid (t ∷ ts) = (valid (t .key) && valid (t .value)) && allValid ts
+allValid (t ∷ ts) = itemValid t && allValid ts
 
 -- ---- the gate
 
--- the items that it finds: no footer, no items; else exactly `count` items, flags zero, ending at the footer; none: not fit for editing
+-- the items that it finds: no footer, no items; else exactly `count` items ending at the footer, each of them valid; none: not fit for editing
 unfoldable pub gateItems : List ℕ → Option (List Item)
 gateItems s = footed (findFooter s) (some []) (λ f. cond (fit s f) (provided allValid (parse (countAt s f) (areaAt s f))) none)
 

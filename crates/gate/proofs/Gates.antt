@@ -15,39 +15,31 @@ use Rattle.replies.specs.Limits.{countLimit}
 use Rattle.frame.specs.Tail.{reach, startOf, tagStart}
 use Rattle.frame.specs.declared.TagStart.{TagStart}
 use Rattle.frame.specs.declared.TagStart.the-variants.{At as StartAt, Nowhere as NoStart}
-use Rattle.items.specs.Items.{areaBytes, parse}
-use Rattle.items.proofs.Area.{area-length}
+use Rattle.items.specs.Items.{areaBytes, parse, itemsIn}
+use Rattle.items.proofs.Area.{AllSane, area-length}
+use Rattle.items.proofs.ItemLaws.{FlagsSane, sane-both, parse-keys}
 use Rattle.ape.specs.Tag.{findFooter, started, versionAt, sizeAt, countAt, areaAt}
 use Rattle.ape.specs.declared.Footer.{Footer}
 use Rattle.ape.specs.declared.Footer.the-variants.{At, Nowhere}
 use Rattle.ape.proofs.Files.{footer-within, area-part}
 use Rattle.calls.specs.Gate.{hasStart, isHeaded, fit, allValid, gateItems, passesGate, itemsOf}
 use Rattle.calls.proofs.Gates.{gate-footer, fit-tests}
+use Rattle.calls.proofs.Items.{valid-flags}
 use Rattle.gate.specs.declared.Editable.{Editable}
 use Rattle.gate.specs.declared.Editable.the-variants.{Items, Unfit}
 use Rattle.gate.specs.Gate.{areaPlace, gateOf, Passed}
 
--- a tag that starts in the file is not longer than what precedes the footer's end
-pub start-size : (s : List ℕ) (f a : ℕ) → tagStart s f ≡ StartAt a → sizeAt s f ≤ f + 32
+-- a tag that starts in the file and the size of its footer end where the footer does, or before
+pub start-size : (s : List ℕ) (f a : ℕ) → tagStart s f ≡ StartAt a → a + sizeAt s f ≤ f + 32
 unfolding tagStart startOf
 start-size s f a e = go (leb (f + 32) (length s)) (ltb (f + 32) (reach (sizeAt s f) (readU32 s (f + 20)))) refl refl
   where
-    go : (t u : Bool) → leb (f + 32) (length s) ≡ t → ltb (f + 32) (reach (sizeAt s f) (readU32 s (f + 20))) ≡ u → sizeAt s f ≤ f + 32
-    go true true p q = let x : NoStart ≡ StartAt a = rw (p, q) at e in absurd (let z : _≡_ {A = ℕ} 0 1 = cc in omega arith)
-    go true false p q = omega (arith, ltb-false (f + 32) (reach (sizeAt s f) (readU32 s (f + 20))) q)
-    go false u p q = let x : NoStart ≡ StartAt a = rw p at e in absurd (let z : _≡_ {A = ℕ} 0 1 = cc in omega arith)
-
--- and it starts before the footer
-pub start-before : (s : List ℕ) (f a : ℕ) → tagStart s f ≡ StartAt a → 32 ≤ sizeAt s f → a ≤ f
-unfolding tagStart startOf
-start-before s f a e z = go (leb (f + 32) (length s)) (ltb (f + 32) (reach (sizeAt s f) (readU32 s (f + 20)))) refl refl
-  where
-    go : (t u : Bool) → leb (f + 32) (length s) ≡ t → ltb (f + 32) (reach (sizeAt s f) (readU32 s (f + 20))) ≡ u → a ≤ f
+    go : (t u : Bool) → leb (f + 32) (length s) ≡ t → ltb (f + 32) (reach (sizeAt s f) (readU32 s (f + 20))) ≡ u → a + sizeAt s f ≤ f + 32
     go true true p q = let x : NoStart ≡ StartAt a = rw (p, q) at e in absurd (let z : _≡_ {A = ℕ} 0 1 = cc in omega arith)
     go true false p q =
         let x : StartAt (f + 32 - reach (sizeAt s f) (readU32 s (f + 20))) ≡ StartAt a = rw (p, q) at e in
         let y : f + 32 - reach (sizeAt s f) (readU32 s (f + 20)) ≡ a = cc in
-        omega arith
+        omega (arith, ltb-false (f + 32) (reach (sizeAt s f) (readU32 s (f + 20))) q)
     go false u p q = let x : NoStart ≡ StartAt a = rw p at e in absurd (let z : _≡_ {A = ℕ} 0 1 = cc in omega arith)
 
 -- ---- the answer
@@ -144,7 +136,7 @@ footer-passed s f at e =
     }
   where
     start : (a : TagStart) → tagStart s f ≡ a → started a false (λ n. true) ≡ true → sizeAt s f ≤ f + 32
-    start (StartAt a) b h = start-size s f a b
+    start (StartAt a) b h = omega (arith, start-size s f a b)
     start NoStart b h = absurd (true≢false (sym h))
 
 nothing-passed : (s : List ℕ) → findFooter s ≡ Nowhere → Passed s 0 0 0
@@ -182,6 +174,15 @@ gate-place s g a b n h e =
     let p = gate-passed s g a b n h e .passes in
     let i : Items a b n ≡ Items (areaPlace s .start) (areaPlace s .end) (areaPlace s .count) = sym e ∙ h ∙ rw p in
     (p, (cc), (cc), (cc))
+
+-- the items of a file that is fit for editing can be read back: its flags are those that the gate lets pass
+pub passed-sane : {s : List ℕ} {start end count : ℕ} → Passed s start end count → AllSane (itemsIn count (part start end s))
+passed-sane {s} {start} {end} {count} p =
+    sane-both (itemsIn count (part start end s)) (parse-keys count (part start end s)) (rw (p .items) (go (findFooter s) refl))
+  where
+    go : (x : Footer) → findFooter s ≡ x → FlagsSane (itemsOf s)
+    go Nowhere q = rw (gate-none s q .1) tt
+    go (At f) q = valid-flags (itemsOf s) (gate-footer s f q (p .passes) .2)
 
 -- the items of a file that is fit for editing have few bytes
 pub short-items : {s : List ℕ} {start end count : ℕ} → Passed s start end count → length (areaBytes (itemsOf s)) ≤ 32768

@@ -7,7 +7,7 @@ ghost use Rattle.lists.specs.Choice.{provided, isSome};
 ghost use Rattle.frame.specs.Tail.{tagStart};
 ghost use Rattle.utf8.specs.Utf8.{Classes};
 ghost use Rattle.items.specs.Items.{parse, itemsIn};
-ghost use Rattle.calls.specs.Gate.{isHeaded, allValid};
+ghost use Rattle.calls.specs.Gate.{isHeaded, flagsFit, itemValid, allValid};
 ghost use Rattle.gate.specs.Gate.{gateOf};
 use ape::Footer;
 use frame::TagStart;
@@ -26,7 +26,34 @@ pub enum Editable {
     Unfit,
 }
 
-// Whether the keys and values of a well-formed area are UTF-8.
+// Whether an item's flags name the type text, binary or external, with no bit beside those of the type and read-only.
+fn flags_fit(flags: u32) -> bool
+    ensures { λ r. ⌜ r ≡ flagsFit flags ⌝ }
+{
+    if items::type_of(flags) > 2 {
+        return false;
+    }
+    flags < 8
+}
+
+// Whether an item may stand in a tag that is edited: such flags, a UTF-8 key, and a UTF-8 value unless it is binary.
+fn item_valid(table: &[u8; 256], flags: u32, key: &[u8], value: &[u8]) -> bool
+    requires { ⌜ Classes (now table) ⌝ }
+    ensures { λ r. ⌜ r ≡ itemValid (record { key = now (key .entry); value = now (value .entry); flags = flags }) ⌝ }
+{
+    if !flags_fit(flags) {
+        return false;
+    }
+    if !utf8::is_utf8_by(table, key) {
+        return false;
+    }
+    if items::is_binary(flags) {
+        return true;
+    }
+    utf8::is_utf8_by(table, value)
+}
+
+// Whether each item of a well-formed area is valid.
 fn all_valid(table: &[u8; 256], area: &[u8], count: usize) -> bool
     requires { ⌜ (Classes (now table)) × (isSome (parse count (now area)) ≡ true) ⌝ }
     ensures { λ r. ⌜ r ≡ allValid (itemsIn count (now (area .entry))) ⌝ }
@@ -36,7 +63,7 @@ fn all_valid(table: &[u8; 256], area: &[u8], count: usize) -> bool
     while 0 < left {
         let s = items::step(area, at);
         let Stepped::Item {
-            flags: _,
+            flags,
             key_start,
             key_end,
             value_start,
@@ -45,10 +72,12 @@ fn all_valid(table: &[u8; 256], area: &[u8], count: usize) -> bool
         else {
             return false;
         };
-        if !utf8::is_utf8_by(table, &area[key_start..key_end]) {
-            return false;
-        }
-        if !utf8::is_utf8_by(table, &area[value_start..value_end]) {
+        if !item_valid(
+            table,
+            flags,
+            &area[key_start..key_end],
+            &area[value_start..value_end],
+        ) {
             return false;
         }
         at = value_end;
@@ -57,7 +86,7 @@ fn all_valid(table: &[u8; 256], area: &[u8], count: usize) -> bool
     true
 }
 
-// Whether the area is exactly `count` items whose keys and values are UTF-8.
+// Whether the area is exactly `count` valid items.
 fn is_clean(area: &[u8], count: usize) -> bool
     ensures { λ r. ⌜ r ≡ isSome (provided allValid (parse count (now (area .entry)))) ⌝ }
 {

@@ -11,22 +11,26 @@ use lib.Seq.{drop-append-add, take-append-seam, drop-append-seam, drop-drop, len
 use lib.Dec.{eqb, leb}
 use borrow.Author.Tests.{le-leb, leb-true, leb-false, eqb-false, eqb-true, eq-eqb, ne-eqb}
 use Rattle.lists.specs.Bytes.{Small, placeOf}
-use Rattle.lists.specs.Choice.{found, provided, isSome}
+use Rattle.lists.specs.Choice.{found, isSome}
 use Rattle.lists.specs.Le.{u32le, readU32}
 use Rattle.lists.specs.Write.{over}
 use Rattle.lists.proofs.Places.{place-within, place-behind, small-drop}
 use Rattle.lists.proofs.Numbers.{read-here, read-drop, number-here}
-use Rattle.items.specs.Items.{Item, itemBytes, areaBytes, sizeOf, Head, headAt, head, plainHead, parse, itemsIn}
+use Rattle.items.specs.Items.{Item, itemBytes, areaBytes, sizeOf, Head, headAt, head, parse, itemsIn}
 
 -- ---- what was written is read
 
--- items that can be read back: no zero byte in a key
+-- an item that can be read back: no zero byte in its key, and its flags are a number of four bytes
+abbrev pub Sane : Item → Type 0
+Sane t = (placeOf 0 (t .key) ≡ length (t .key)) × (t .flags < 4294967296)
+
+-- items that can be read back
 abbrev pub AllSane : List Item → Type 0
 AllSane [] = Unit {0}
-AllSane (t ∷ ts) = (placeOf 0 (t .key) ≡ length (t .key)) × AllSane ts
+AllSane (t ∷ ts) = Sane t × AllSane ts
 
 head-at : (k v s : List ℕ) (f : ℕ) → placeOf 0 k ≡ length k
-    → headAt (length v) f (k ++ (0 ∷ (v ++ s))) ≡ some (record { flags = f; item = record { key = k; value = v }; rest = s })
+    → headAt (length v) f (k ++ (0 ∷ (v ++ s))) ≡ some (record { item = record { key = k; value = v; flags = f }; rest = s })
 unfolding headAt
 head-at k v s f z =
     rw (
@@ -40,17 +44,19 @@ head-at k v s f z =
       drop-append-seam,
     )
 
-pub flat : (t : Item) (s : List ℕ) → itemBytes t ++ s ≡ u32le (length (t .value)) ++ (u32le 0 ++ (t .key ++ (0 ∷ (t .value ++ s))))
+pub flat : (t : Item) (s : List ℕ) → itemBytes t ++ s ≡ u32le (length (t .value)) ++ (u32le (t .flags) ++ (t .key ++ (0 ∷ (t .value ++ s))))
 unfolding itemBytes
 flat t s = simp append-assoc
 
-head-flat : (n : ℕ) (b : List ℕ) → n < 4294967296 → plainHead (u32le n ++ (u32le 0 ++ b)) ≡ provided (λ h. eqb (h .flags) 0) (headAt n 0 b)
-unfolding head plainHead
-head-flat n b h = ap (λ (m : ℕ). provided (λ h. eqb (h .flags) 0) (headAt m 0 b)) (read-here n (u32le 0 ++ b) h)
+read-second : (n g : ℕ) (b : List ℕ) → g < 4294967296 → readU32 (u32le n ++ (u32le g ++ b)) 4 ≡ g
+read-second n g b h = omega arith
 
-pub head-item : (t : Item) (s : List ℕ) → placeOf 0 (t .key) ≡ length (t .key) → length (t .value) < 4294967296
-    → plainHead (itemBytes t ++ s) ≡ some (record { flags = 0; item = t; rest = s })
-head-item t s z h = rw (flat t s, head-flat (length (t .value)) _ h, head-at (t .key) (t .value) s 0 z)
+head-flat : (n g : ℕ) (b : List ℕ) → n < 4294967296 → g < 4294967296 → head (u32le n ++ (u32le g ++ b)) ≡ headAt n g b
+unfolding head
+head-flat n g b h f = ap (λ (m : ℕ). headAt m (readU32 (u32le n ++ (u32le g ++ b)) 4) b) (read-here n (u32le g ++ b) h) ∙ ap (λ (m : ℕ). headAt n m b) (read-second n g b f)
+
+pub head-item : (t : Item) (s : List ℕ) → Sane t → length (t .value) < 4294967296 → head (itemBytes t ++ s) ≡ some (record { item = t; rest = s })
+head-item t s (z, f) h = rw (flat t s, head-flat (length (t .value)) (t .flags) _ h f, head-at (t .key) (t .value) s (t .flags) z)
 
 pub length-item : (t : Item) → length (itemBytes t) ≡ sizeOf t
 unfolding itemBytes
@@ -91,7 +97,7 @@ pub record Whole (s : List ℕ) (h : Head) : Type 0 where
   pub key-is : h .item .key ≡ take (length (h .item .key)) (drop 8 s)
   pub value-long : length (h .item .value) ≡ readU32 s 0
   pub value-is : h .item .value ≡ take (length (h .item .value)) (drop (9 + length (h .item .key)) s)
-  pub flags-are : h .flags ≡ readU32 s 4
+  pub flags-are : h .item .flags ≡ readU32 s 4
 
 -- s has a whole item at its front exactly if this holds
 abbrev pub Front : List ℕ → Type 0
@@ -108,7 +114,7 @@ abbrev pub front : List ℕ → Head
 front s =
     let b = drop 8 s in
     let v = drop (placeOf 0 b + 1) b in
-    record { flags = readU32 s 4; item = record { key = take (placeOf 0 b) b; value = take (readU32 s 0) v }; rest = drop (readU32 s 0) v }
+    record { item = record { key = take (placeOf 0 b) b; value = take (readU32 s 0) v; flags = readU32 s 4 }; rest = drop (readU32 s 0) v }
 
 pub head-front : (s : List ℕ) → Front s → head s ≡ some (front s)
 unfolding head headAt
@@ -158,66 +164,32 @@ seen s h e = go (leb (9 + placeOf 0 (drop 8 s) + readU32 s 0) (length s)) refl
 pub whole : (s : List ℕ) (h : Head) → head s ≡ some h → Whole s h
 whole s h e = let (f, q) = seen s h e in rw (← q) (whole-front s f)
 
--- ---- an item with flags zero
-
-pub plain-yes : (s : List ℕ) (h : Head) → head s ≡ some h → h .flags ≡ 0 → plainHead s ≡ some h
-unfolding plainHead
-plain-yes s h e z = rw e (rw (eq-eqb _ _ z))
-
-pub plain-flagged : (s : List ℕ) (h : Head) → head s ≡ some h → (h .flags ≡ 0 → ⊥) → plainHead s ≡ none
-unfolding plainHead
-plain-flagged s h e z = rw e (rw (ne-eqb _ _ z))
-
-pub plain-none : (s : List ℕ) → head s ≡ none → plainHead s ≡ none
-unfolding plainHead
-plain-none s e = rw e
-
-pub plain : (s : List ℕ) (h : Head) → plainHead s ≡ some h → (head s ≡ some h) × (h .flags ≡ 0)
-plain s h e = go (head s) refl
-  where
-    go : (o : Option Head) → head s ≡ o → (head s ≡ some h) × (h .flags ≡ 0)
-    go none p =
-        let f = plain-none s p in
-        absurd (let z : _≡_ {A = ℕ} 0 1 = cc in omega arith)
-    go (some g) p = flagged (eqb (g .flags) 0) refl
-      where
-        flagged : (t : Bool) → eqb (g .flags) 0 ≡ t → (head s ≡ some h) × (h .flags ≡ 0)
-        flagged true q =
-            let f = plain-yes s g p (eqb-true _ _ q) in
-            let z : g .flags ≡ 0 = eqb-true _ _ q in
-            let i : g ≡ h = cc in
-            (rw (← i) p, rw (← i) z)
-        flagged false q =
-            let f = plain-flagged s g p (eqb-false _ _ q) in
-            absurd (let z : _≡_ {A = ℕ} 0 1 = cc in omega arith)
-
 -- the item's bytes, and what follows it
-pub head-bytes : (s : List ℕ) (h : Head) → Small s → plainHead s ≡ some h → s ≡ itemBytes (h .item) ++ h .rest
+pub head-bytes : (s : List ℕ) (h : Head) → Small s → head s ≡ some h → s ≡ itemBytes (h .item) ++ h .rest
 head-bytes s h b e =
-    let (p, y) = plain s h e in
-    let (f, q) = seen s h p in
+    let (f, q) = seen s h e in
     let w = whole-front s f in
-    let z : readU32 s 4 ≡ 0 = ap (λ g. g .flags) q ∙ y in
     let d = drop 8 s in
     let k = placeOf 0 d in
     let n = readU32 s 0 in
     let l : length d ≡ length s - 8 = length-drop 8 s in
     let l4 : length (drop 4 s) ≡ length s - 4 = length-drop 4 s in
     let one : s ≡ u32le n ++ drop 4 s = number-here s b (omega arith) in
-    let flag : readU32 (drop 4 s) 0 ≡ 0 = read-drop s 4 0 ∙ z in
-    let two : drop 4 s ≡ u32le 0 ++ d = number-here (drop 4 s) (small-drop s 4 b) (omega arith) ∙ rw (flag, drop-drop) in
+    let g = readU32 s 4 in
+    let flag : readU32 (drop 4 s) 0 ≡ g = read-drop s 4 0 in
+    let two : drop 4 s ≡ u32le g ++ d = number-here (drop 4 s) (small-drop s 4 b) (omega arith) ∙ rw (flag, drop-drop) in
     let three : d ≡ take k d ++ (0 ∷ drop (k + 1) d) = rw add-one (zero-there d (omega arith)) in
     let four : drop (k + 1) d ≡ take n (drop (k + 1) d) ++ drop n (drop (k + 1) d) = sym (take-append-drop n (drop (k + 1) d)) in
-    rw (← q) (one ∙ ap (λ (l : List ℕ). u32le n ++ l) (two ∙ ap (λ (l : List ℕ). u32le 0 ++ l) (three ∙ ap (λ (l : List ℕ). take k d ++ (0 ∷ l)) four)) ∙ ap (λ (m : ℕ). u32le m ++ (u32le 0 ++ (take k d ++ (0 ∷ (take n (drop (k + 1) d) ++ drop n (drop (k + 1) d)))))) (sym (w .value-long)) ∙ sym (flat (front s .item) (front s .rest)))
+    rw (← q) (one ∙ ap (λ (l : List ℕ). u32le n ++ l) (two ∙ ap (λ (l : List ℕ). u32le g ++ l) (three ∙ ap (λ (l : List ℕ). take k d ++ (0 ∷ l)) four)) ∙ ap (λ (m : ℕ). u32le m ++ (u32le g ++ (take k d ++ (0 ∷ (take n (drop (k + 1) d) ++ drop n (drop (k + 1) d)))))) (sym (w .value-long)) ∙ sym (flat (front s .item) (front s .rest)))
 
 -- ---- a list of items that was read
 
-pub parse-stop : (n : ℕ) (s : List ℕ) → 0 < n → plainHead s ≡ none → parse n s ≡ none
+pub parse-stop : (n : ℕ) (s : List ℕ) → 0 < n → head s ≡ none → parse n s ≡ none
 unfolding parse
 parse-stop zero s h e = absurd (omega arith)
 parse-stop (suc n) s h e = rw e
 
-pub parse-go : (n : ℕ) (s : List ℕ) (h : Head) → 0 < n → plainHead s ≡ some h → parse n s ≡ Option·map (λ ts. h .item ∷ ts) (parse (n - 1) (h .rest))
+pub parse-go : (n : ℕ) (s : List ℕ) (h : Head) → 0 < n → head s ≡ some h → parse n s ≡ Option·map (λ ts. h .item ∷ ts) (parse (n - 1) (h .rest))
 unfolding parse
 parse-go zero s h l e = absurd (omega arith)
 parse-go (suc n) s h l e = let q : suc n - 1 ≡ n = omega arith in rw (e, q)
@@ -226,12 +198,12 @@ parse-go (suc n) s h l e = let q : suc n - 1 ≡ n = omega arith in rw (e, q)
 pub parse-long : (n : ℕ) (s : List ℕ) → length s < 9 * n → parse n s ≡ none
 unfolding parse
 parse-long zero s l = absurd (omega arith)
-parse-long (suc n) s l = go (plainHead s) refl (λ h. parse-long n (h .rest))
+parse-long (suc n) s l = go (head s) refl (λ h. parse-long n (h .rest))
   where
-    go : (o : Option Head) → plainHead s ≡ o → ((h : Head) → length (h .rest) < 9 * n → parse n (h .rest) ≡ none) → parse (suc n) s ≡ none
+    go : (o : Option Head) → head s ≡ o → ((h : Head) → length (h .rest) < 9 * n → parse n (h .rest) ≡ none) → parse (suc n) s ≡ none
     go none e ih = rw e
     go (some h) e ih =
-        let w = whole s h (plain s h e .0) in
+        let w = whole s h e in
         let r : length (h .rest) ≡ length s - sizeOf (h .item) = ap length (w .after) ∙ length-drop (sizeOf (h .item)) s in
         rw (e, ih h (omega arith))
 
@@ -253,14 +225,14 @@ pub count-items : (n : ℕ) (s : List ℕ) → isSome (parse n s) ≡ true → l
 unfolding parse
 count-items zero [] e = refl
 count-items zero (x ∷ s) e = absurd (true≢false (sym e))
-count-items (suc n) s e = go (plainHead s) refl (λ r. count-items n r)
+count-items (suc n) s e = go (head s) refl (λ r. count-items n r)
   where
     inner : (h : Head) (o : Option (List Item)) → isSome (Option·map (λ ts. h .item ∷ ts) o) ≡ true → (isSome o ≡ true → length (found o [] (λ ts. ts)) ≡ n)
         → length (found (Option·map (λ ts. h .item ∷ ts) o) [] (λ ts. ts)) ≡ suc n
     inner h none e ih = absurd (true≢false (sym e))
     inner h (some ts) e ih = ap suc (ih refl)
 
-    go : (o : Option Head) → plainHead s ≡ o → ((r : List ℕ) → isSome (parse n r) ≡ true → length (itemsIn n r) ≡ n) → length (itemsIn (suc n) s) ≡ suc n
+    go : (o : Option Head) → head s ≡ o → ((r : List ℕ) → isSome (parse n r) ≡ true → length (itemsIn n r) ≡ n) → length (itemsIn (suc n) s) ≡ suc n
     go none q ih = absurd (true≢false (sym e ∙ rw q))
     go (some h) q ih = rw q (inner h (parse n (h .rest)) (rw q at e) (ih (h .rest)))
 
@@ -269,17 +241,17 @@ pub area-length : (n : ℕ) (s : List ℕ) → isSome (parse n s) ≡ true → l
 unfolding parse areaBytes
 area-length zero [] e = refl
 area-length zero (x ∷ s) e = absurd (true≢false (sym e))
-area-length (suc n) s e = go (plainHead s) refl (λ r. area-length n r)
+area-length (suc n) s e = go (head s) refl (λ r. area-length n r)
   where
     inner : (h : Head) (o : Option (List Item)) → isSome (Option·map (λ ts. h .item ∷ ts) o) ≡ true → (isSome o ≡ true → length (areaBytes (found o [] (λ ts. ts))) ≡ length (h .rest))
         → length (areaBytes (found (Option·map (λ ts. h .item ∷ ts) o) [] (λ ts. ts))) ≡ sizeOf (h .item) + length (h .rest)
     inner h none e ih = absurd (true≢false (sym e))
     inner h (some ts) e ih = length-area (h .item) ts ∙ ap (λ (i : ℕ). sizeOf (h .item) + i) (ih refl)
 
-    go : (o : Option Head) → plainHead s ≡ o → ((r : List ℕ) → isSome (parse n r) ≡ true → length (areaBytes (itemsIn n r)) ≡ length r) → length (areaBytes (itemsIn (suc n) s)) ≡ length s
+    go : (o : Option Head) → head s ≡ o → ((r : List ℕ) → isSome (parse n r) ≡ true → length (areaBytes (itemsIn n r)) ≡ length r) → length (areaBytes (itemsIn (suc n) s)) ≡ length s
     go none q ih = absurd (true≢false (sym e ∙ rw q))
     go (some h) q ih =
-        let w = whole s h (plain s h q .0) in
+        let w = whole s h q in
         let r : length (h .rest) ≡ length s - sizeOf (h .item) = ap length (w .after) ∙ length-drop (sizeOf (h .item)) s in
         rw q (inner h (parse n (h .rest)) (rw q at e) (ih (h .rest)) ∙ omega (arith, w .long))
 
@@ -288,17 +260,17 @@ pub area-items : (n : ℕ) (s : List ℕ) → Small s → isSome (parse n s) ≡
 unfolding parse areaBytes
 area-items zero [] b e = refl
 area-items zero (x ∷ s) b e = absurd (true≢false (sym e))
-area-items (suc n) s b e = go (plainHead s) refl (λ r. area-items n r)
+area-items (suc n) s b e = go (head s) refl (λ r. area-items n r)
   where
     inner : (h : Head) (o : Option (List Item)) → isSome (Option·map (λ ts. h .item ∷ ts) o) ≡ true → (isSome o ≡ true → areaBytes (found o [] (λ ts. ts)) ≡ h .rest)
         → areaBytes (found (Option·map (λ ts. h .item ∷ ts) o) [] (λ ts. ts)) ≡ itemBytes (h .item) ++ h .rest
     inner h none e ih = absurd (true≢false (sym e))
     inner h (some ts) e ih = ap (λ (l : List ℕ). itemBytes (h .item) ++ l) (ih refl)
 
-    go : (o : Option Head) → plainHead s ≡ o → ((r : List ℕ) → Small r → isSome (parse n r) ≡ true → areaBytes (itemsIn n r) ≡ r) → areaBytes (itemsIn (suc n) s) ≡ s
+    go : (o : Option Head) → head s ≡ o → ((r : List ℕ) → Small r → isSome (parse n r) ≡ true → areaBytes (itemsIn n r) ≡ r) → areaBytes (itemsIn (suc n) s) ≡ s
     go none q ih = absurd (true≢false (sym e ∙ rw q))
     go (some h) q ih =
-        let w = whole s h (plain s h q .0) in
+        let w = whole s h q in
         let r : Small (h .rest) = rw (w .after) (small-drop s (sizeOf (h .item)) b) in
         let f : isSome (Option·map (λ ts. h .item ∷ ts) (parse n (h .rest))) ≡ true = rw q at e in
         let g : areaBytes (found (Option·map (λ ts. h .item ∷ ts) (parse n (h .rest))) [] (λ ts. ts)) ≡ itemBytes (h .item) ++ h .rest = inner h (parse n (h .rest)) f (ih (h .rest) r) in

@@ -1,5 +1,5 @@
 -- Laws of items by key: get, set and without, and what an edit does to their number, their bytes and their reading.
-use Prim.Native.Nat.{ℕ, zero, suc, _+_, _≤_}
+use Prim.Native.Nat.{ℕ, zero, suc, _+_, _≤_, _<_}
 use native.Mathlib.Omega.{arith}
 use mathlib.Core.Path.{_≡_, refl, sym, ap, _∙_}
 use mathlib.Core.Bool.{Bool, true, false, _||_, cond, true≢false}
@@ -7,12 +7,13 @@ use mathlib.Core.Option.{Option, none, some, Option·map}
 use mathlib.Core.List.{List, [], _∷_}
 use lib.ListN.{length, take, drop, length-append}
 use lib.Dec.{eqb}
-use Rattle.lists.specs.Bytes.{placeOf}
+use Rattle.lists.specs.Bytes.{Small, placeOf}
 use Rattle.lists.specs.Choice.{found}
+use Rattle.lists.proofs.Places.{small-drop}
 use Rattle.keys.specs.Keys.{upperAll, sameKey, isMp3gainKey, isUndone, undoKey, minmaxKey, isKey}
 use Rattle.keys.proofs.Keys.{key-sym, key-upper, length-upper, Caseless, same-caseless, from-caseless, eight-are, printable-whole, printable-upper, key-printable}
-use Rattle.items.specs.Items.{Item, areaBytes, Head, plainHead, parse, itemsIn, getItem, setItem, without, removeItem}
-use Rattle.items.proofs.Area.{AllSane, whole, plain, length-area}
+use Rattle.items.specs.Items.{Item, areaBytes, sizeOf, Head, head, parse, itemsIn, getItem, setItem, withValue, newItem, without, removeItem}
+use Rattle.items.proofs.Area.{Sane, AllSane, whole, length-area}
 
 -- ---- get, set, without
 
@@ -187,12 +188,12 @@ count-set key value (t ∷ ts) = go (sameKey key (t .key)) refl (count-set key v
 
 pub area-set : (key value : List ℕ) (ts : List Item) → length (areaBytes (setItem key value ts)) ≤ length (areaBytes ts) + 9 + length key + length value
 unfolding setItem
-area-set key value [] = let n = length-upper key in omega (arith, length-area (record { key = upperAll key; value = value }) [])
+area-set key value [] = let n = length-upper key in omega (arith, length-area (newItem key value) [])
 area-set key value (t ∷ ts) = go (sameKey key (t .key)) refl (area-set key value ts)
   where
     go : (a : Bool) → sameKey key (t .key) ≡ a → length (areaBytes (setItem key value ts)) ≤ length (areaBytes ts) + 9 + length key + length value
         → length (areaBytes (setItem key value (t ∷ ts))) ≤ length (areaBytes (t ∷ ts)) + 9 + length key + length value
-    go true e ih = rw e (omega (arith, length-area (record { key = t .key; value = value }) ts, length-area t ts))
+    go true e ih = rw e (omega (arith, length-area (withValue value t) ts, length-area t ts))
     go false e ih = rw e (omega (arith, length-area t (setItem key value ts), length-area t ts))
 
 -- ---- items that can be read back
@@ -208,11 +209,11 @@ sane-without p (t ∷ ts) (s, r) = go (p (t .key)) refl (sane-without p ts r)
 
 pub sane-set : (key value : List ℕ) (ts : List Item) → placeOf 0 (upperAll key) ≡ length (upperAll key) → AllSane ts → AllSane (setItem key value ts)
 unfolding setItem
-sane-set key value [] n s = (n, tt)
+sane-set key value [] n s = ((n, omega arith), tt)
 sane-set key value (t ∷ ts) n (s, r) = go (sameKey key (t .key)) refl (sane-set key value ts n r)
   where
     go : (a : Bool) → sameKey key (t .key) ≡ a → AllSane (setItem key value ts) → AllSane (setItem key value (t ∷ ts))
-    go true e ih = rw e (s, r)
+    go true e ih = rw e ((s .0, omega arith), r)
     go false e ih = rw e (s, ih)
 
 -- a key that was read has no zero byte
@@ -226,24 +227,64 @@ key-sane (x ∷ s) = go (eqb x 0) refl (key-sane s)
     go true e ih = refl
     go false e ih = rw e (ap suc ih)
 
--- items that were read can be written and read back
-pub parse-sane : (n : ℕ) (s : List ℕ) → AllSane (itemsIn n s)
+-- the keys of items that were read
+abbrev pub KeysSane : List Item → Type 0
+KeysSane [] = Unit {0}
+KeysSane (t ∷ ts) = (placeOf 0 (t .key) ≡ length (t .key)) × KeysSane ts
+
+-- and their flags
+abbrev pub FlagsSane : List Item → Type 0
+FlagsSane [] = Unit {0}
+FlagsSane (t ∷ ts) = (t .flags < 4294967296) × FlagsSane ts
+
+pub sane-both : (ts : List Item) → KeysSane ts → FlagsSane ts → AllSane ts
+sane-both [] k f = tt
+sane-both (t ∷ ts) (k, l) (f, g) = ((k, f), sane-both ts l g)
+
+-- an item that was read has no zero byte in its key
+head-key : (s : List ℕ) (h : Head) → head s ≡ some h → placeOf 0 (h .item .key) ≡ length (h .item .key)
+head-key s h q =
+    let w = whole s h q in
+    let k : h .item .key ≡ take (placeOf 0 (drop 8 s)) (drop 8 s) = w .key-is ∙ ap (λ (i : ℕ). take i (drop 8 s)) (w .key-long) in
+    rw k (key-sane (drop 8 s))
+
+pub parse-keys : (n : ℕ) (s : List ℕ) → KeysSane (itemsIn n s)
 unfolding parse
-parse-sane zero [] = tt
-parse-sane zero (x ∷ s) = tt
-parse-sane (suc n) s = go (plainHead s) refl (λ r. parse-sane n r)
+parse-keys zero [] = tt
+parse-keys zero (x ∷ s) = tt
+parse-keys (suc n) s = go (head s) refl (λ r. parse-keys n r)
   where
-    inner : (h : Head) (o : Option (List Item)) → placeOf 0 (h .item .key) ≡ length (h .item .key) → AllSane (found o [] (λ ts. ts))
-        → AllSane (found (Option·map (λ ts. h .item ∷ ts) o) [] (λ ts. ts))
+    inner : (h : Head) (o : Option (List Item)) → placeOf 0 (h .item .key) ≡ length (h .item .key) → KeysSane (found o [] (λ ts. ts))
+        → KeysSane (found (Option·map (λ ts. h .item ∷ ts) o) [] (λ ts. ts))
     inner h none k ih = tt
     inner h (some ts) k ih = (k, ih)
 
-    go : (o : Option Head) → plainHead s ≡ o → ((r : List ℕ) → AllSane (itemsIn n r)) → AllSane (itemsIn (suc n) s)
+    go : (o : Option Head) → head s ≡ o → ((r : List ℕ) → KeysSane (itemsIn n r)) → KeysSane (itemsIn (suc n) s)
+    go none q ih = rw q tt
+    go (some h) q ih = rw q (inner h (parse n (h .rest)) (head-key s h q) (ih (h .rest)))
+
+-- the flags of items that were read from bytes
+pub parse-flags : (n : ℕ) (s : List ℕ) → Small s → FlagsSane (itemsIn n s)
+unfolding parse
+parse-flags zero [] b = tt
+parse-flags zero (x ∷ s) b = tt
+parse-flags (suc n) s b = go (head s) refl (λ r. parse-flags n r)
+  where
+    inner : (h : Head) (o : Option (List Item)) → h .item .flags < 4294967296 → FlagsSane (found o [] (λ ts. ts))
+        → FlagsSane (found (Option·map (λ ts. h .item ∷ ts) o) [] (λ ts. ts))
+    inner h none k ih = tt
+    inner h (some ts) k ih = (k, ih)
+
+    go : (o : Option Head) → head s ≡ o → ((r : List ℕ) → Small r → FlagsSane (itemsIn n r)) → FlagsSane (itemsIn (suc n) s)
     go none q ih = rw q tt
     go (some h) q ih =
-        let w = whole s h (plain s h q .0) in
-        let k : h .item .key ≡ take (placeOf 0 (drop 8 s)) (drop 8 s) = w .key-is ∙ ap (λ (i : ℕ). take i (drop 8 s)) (w .key-long) in
-        rw q (inner h (parse n (h .rest)) (rw k (key-sane (drop 8 s))) (ih (h .rest)))
+        let w = whole s h q in
+        let r : Small (h .rest) = rw (w .after) (small-drop s (sizeOf (h .item)) b) in
+        rw q (inner h (parse n (h .rest)) (omega (arith, w .flags-are, b 4, b 5, b 6, b 7)) (ih (h .rest) r))
+
+-- items that were read from bytes can be written and read back
+pub parse-sane : (n : ℕ) (s : List ℕ) → Small s → AllSane (itemsIn n s)
+parse-sane n s b = sane-both (itemsIn n s) (parse-keys n s) (parse-flags n s b)
 
 -- a good key can be read back as it is set
 pub sane-key : (key : List ℕ) → isKey key ≡ true → placeOf 0 (upperAll key) ≡ length (upperAll key)

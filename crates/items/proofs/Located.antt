@@ -10,7 +10,7 @@ use lib.Dec.{eqb}
 use borrow.Author.Tests.{eq-eqb, ne-eqb}
 use Rattle.lists.specs.Choice.{found, isSome}
 use Rattle.keys.specs.Keys.{sameKey}
-use Rattle.items.specs.Items.{Item, plainHead, sizeOf, parse, itemsIn}
+use Rattle.items.specs.Items.{Item, head, sizeOf, parse, itemsIn}
 use Rattle.items.specs.Answers.{locateIn, locateOf}
 use Rattle.items.specs.declared.Place.{Place}
 use Rattle.items.specs.declared.Place.the-variants.{At, Nowhere, Malformed}
@@ -24,10 +24,10 @@ locateFrom s key at n = found (parse n (drop at s)) Malformed (λ ts. locateIn k
 pub locate-long : (s key : List ℕ) (n : ℕ) → length s < 9 * n → locateOf s n key ≡ Malformed
 locate-long s key n h = rw (parse-long n s h)
 
-pub locate-stop : (s key : List ℕ) (at n : ℕ) → 0 < n → plainHead (drop at s) ≡ none → locateFrom s key at n ≡ Malformed
+pub locate-stop : (s key : List ℕ) (at n : ℕ) → 0 < n → head (drop at s) ≡ none → locateFrom s key at n ≡ Malformed
 locate-stop s key at n h e = rw (parse-stop n (drop at s) h e)
 
-module _ {s : List ℕ} {at g a b c d : ℕ} (n : ℕ) (t : Taken plainHead s at g a b c d) (more : 0 < n) (key : List ℕ) {x : Bool} (e : x ≡ sameKey key (take (b - a) (drop a s))) where
+module _ {s : List ℕ} {at g a b c d : ℕ} (n : ℕ) (t : Taken s at g a b c d) (more : 0 < n) (key : List ℕ) {x : Bool} (e : x ≡ sameKey key (take (b - a) (drop a s))) where
   test : (y : Bool) → x ≡ y → sameKey key (t .head .item .key) ≡ y
   test y f = ap (sameKey key) (sym (key-part t)) ∙ sym e ∙ f
 

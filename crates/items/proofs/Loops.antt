@@ -12,12 +12,12 @@ use Rattle.lists.specs.Bytes.{Small}
 use Rattle.lists.specs.Choice.{found, isSome}
 use Rattle.lists.specs.Write.{part}
 use Rattle.lists.proofs.Places.{small-drop}
-use Rattle.items.specs.Items.{Item, itemBytes, sizeOf, Head, plainHead, parse, itemsIn}
+use Rattle.items.specs.Items.{Item, itemBytes, sizeOf, parse, itemsIn}
 use Rattle.items.specs.Answers.{stepOf}
 use Rattle.items.specs.declared.Stepped.{Stepped}
 use Rattle.items.specs.declared.Stepped.the-variants.{Item as ItemAt}
 use Rattle.items.proofs.Area.{head-bytes, length-item, parse-stop}
-use Rattle.items.proofs.Walk.{Taken, zero-flags, taken, tag, stopped, fewer, fewer-some, key-part}
+use Rattle.items.proofs.Walk.{Taken, taken, tag, stopped, fewer, fewer-some, key-part}
 
 -- `left` items stand from `at` to the end
 pub record Left (s : List ℕ) (at left : ℕ) : Type 0 where
@@ -46,8 +46,8 @@ opened x none e = absurd (true≢false (sym e))
 opened x (some ts) e = refl
 
 -- the value, as the code takes it
-pub value-part : {f : List ℕ → Option Head} {s : List ℕ} {at g a b c d : ℕ} (t : Taken f s at g a b c d) → part c d s ≡ t .head .item .value
-value-part {f} {s} {at} {g} {a} {b} {c} {d} t =
+pub value-part : {s : List ℕ} {at g a b c d : ℕ} (t : Taken s at g a b c d) → part c d s ≡ t .head .item .value
+value-part {s} {at} {g} {a} {b} {c} {d} t =
     let v = t .head .item .value in
     let m : d - c ≡ length v = omega (arith, t .value-start, t .value-end) in
     let n : c ≡ at + (9 + length (t .head .item .key)) = omega (arith, t .value-start) in
@@ -57,7 +57,7 @@ value-part {f} {s} {at} {g} {a} {b} {c} {d} t =
     ∙ sym (t .whole .value-is)
 
 -- the whole item
-pub item-part : {s : List ℕ} {at g a b c d : ℕ} (t : Taken plainHead s at g a b c d) → Small s → part at d s ≡ itemBytes (t .head .item)
+pub item-part : {s : List ℕ} {at g a b c d : ℕ} (t : Taken s at g a b c d) → Small s → part at d s ≡ itemBytes (t .head .item)
 item-part {s} {at} {g} {a} {b} {c} {d} t sm =
     let h = t .head in
     let m : d - at ≡ sizeOf (h .item) = omega (arith, t .value-end) in
@@ -69,7 +69,7 @@ module _ {s : List ℕ} {at left : ℕ} (l : Left s at left) (more : 0 < left) w
   -- an item was found
   pub turn : {g a b c d : ℕ} → ItemAt g a b c d ≡ stepOf s at → Turn s at left a b c d
   turn {g} {a} {b} {c} {d} e =
-      let t = taken zero-flags s at g a b c d e in
+      let t = taken s at g a b c d e in
       let h = t .head in
       let f = fewer left t more in
       record {
@@ -85,9 +85,14 @@ module _ {s : List ℕ} {at left : ℕ} (l : Left s at left) (more : 0 < left) w
         bytes = item-part t;
       }
 
+  -- and its flags
+  pub turn-flags : {g a b c d : ℕ} (e : ItemAt g a b c d ≡ stepOf s at) → g ≡ turn e .item .flags
+  unfolding turn
+  turn-flags {g} {a} {b} {c} {d} e = taken s at g a b c d e .flags
+
   -- the step finds one
   pub never : (r : Stepped) → r ≡ stepOf s at → (tag r ≡ 1) ⊎ (tag r ≡ 2) → ⊥
-  never r e k = true≢false (sym (l .some) ∙ ap isSome (parse-stop left (drop at s) more (stopped zero-flags s at r e k)))
+  never r e k = true≢false (sym (l .some) ∙ ap isSome (parse-stop left (drop at s) more (stopped s at r e k)))
 
 pub items-none : (s : List ℕ) → itemsIn 0 s ≡ []
 unfolding parse

@@ -10,9 +10,9 @@ use lib.Seq.{take-at, drop-at}
 use Rattle.lists.specs.Bytes.{Small}
 use Rattle.lists.specs.Choice.{isSome}
 use Rattle.lists.specs.Le.{u32le}
-use Rattle.keys.specs.Keys.{upperAll, sameKey}
+use Rattle.keys.specs.Keys.{sameKey}
 use Rattle.keys.proofs.Keys.{length-upper}
-use Rattle.items.specs.Items.{Item, itemBytes, areaBytes, sizeOf, parse, itemsIn, getItem, setItem}
+use Rattle.items.specs.Items.{Item, itemBytes, areaBytes, sizeOf, parse, itemsIn, getItem, setItem, withValue, newItem}
 use Rattle.items.specs.Answers.{locateIn, foundAt}
 use Rattle.items.specs.declared.Place.{Place}
 use Rattle.items.specs.declared.Place.the-variants.{At, Nowhere, Malformed}
@@ -31,7 +31,7 @@ pub record Split (key : List ℕ) (at : ℕ) (ts : List Item) (a k e : ℕ) : Ty
   pub key-end : k ≡ a + 8 + length (item .key)
   pub end : e ≡ a + sizeOf item
   pub got : getItem key ts ≡ some (item .value)
-  pub put : (value : List ℕ) → setItem key value ts ≡ front ++ (record { key = item .key; value = value } ∷ back)
+  pub put : (value : List ℕ) → setItem key value ts ≡ front ++ (withValue value item ∷ back)
 
 never : (a k e : ℕ) → Nowhere ≡ At a k e → ⊥
 never a k e q = let z : _≡_ {A = ℕ} 0 1 = cc in omega arith
@@ -75,7 +75,7 @@ split key at (t ∷ ts) a k e q = go (sameKey key (t .key)) refl (λ r. split ke
 -- no match
 pub record Absent (key : List ℕ) (ts : List Item) : Type 0 where
   pub got : getItem key ts ≡ none
-  pub put : (value : List ℕ) → setItem key value ts ≡ ts ++ (record { key = upperAll key; value = value } ∷ [])
+  pub put : (value : List ℕ) → setItem key value ts ≡ ts ++ (newItem key value ∷ [])
 
 pub absent : (key : List ℕ) (at : ℕ) (ts : List Item) → locateIn key at ts ≡ Nowhere → Absent key ts
 unfolding locateIn getItem setItem
@@ -107,7 +107,7 @@ module _ {key : List ℕ} {ts : List Item} {a k e : ℕ} (x : Split key 0 ts a k
 module _ {key : List ℕ} {ts : List Item} {a k e : ℕ} (x : Split key 0 ts a k e) (value : List ℕ) where
   -- the new item
   abbrev pub new : Item
-  new = record { key = x .item .key; value = value }
+  new = withValue value (x .item)
 
   pub set-bytes : areaBytes (setItem key value ts) ≡ areaBytes (x .front) ++ (itemBytes new ++ areaBytes (x .back))
   unfolding areaBytes
@@ -121,7 +121,7 @@ module _ {key : List ℕ} {ts : List Item} {a k e : ℕ} (x : Split key 0 ts a k
 
 module _ {key : List ℕ} {ts : List Item} (x : Absent key ts) (value : List ℕ) where
   abbrev pub last : Item
-  last = record { key = upperAll key; value = value }
+  last = newItem key value
 
   pub append-bytes : areaBytes (setItem key value ts) ≡ areaBytes ts ++ itemBytes last
   unfolding areaBytes
@@ -136,11 +136,11 @@ module _ {key : List ℕ} {ts : List Item} (x : Absent key ts) (value : List ℕ
 -- the new area holds the new value
 pub set-holds : (key value : List ℕ) (ts : List Item) → length value ≤ length (areaBytes (setItem key value ts))
 unfolding setItem
-set-holds key value [] = omega (arith, length-area (record { key = upperAll key; value = value }) [])
+set-holds key value [] = omega (arith, length-area (newItem key value) [])
 set-holds key value (t ∷ ts) = go (sameKey key (t .key)) refl (set-holds key value ts)
   where
     go : (b : Bool) → sameKey key (t .key) ≡ b → length value ≤ length (areaBytes (setItem key value ts)) → length value ≤ length (areaBytes (setItem key value (t ∷ ts)))
-    go true p ih = rw p (omega (arith, length-area (record { key = t .key; value = value }) ts))
+    go true p ih = rw p (omega (arith, length-area (withValue value t) ts))
     go false p ih = rw p (omega (arith, length-area t (setItem key value ts)))
 
 -- ---- get
@@ -161,7 +161,7 @@ find-get s n key b w = go (locateIn key 0 (itemsIn n s)) refl
     go (At a k e) q =
         let x = split key 0 (itemsIn n s) a k e q in
         let f = areaBytes (x .front) in
-        let h = (f ++ (u32le (length (x .item .value)) ++ (u32le 0 ++ (x .item .key ++ (0 ∷ []))))) in
+        let h = (f ++ (u32le (length (x .item .value)) ++ (u32le (x .item .flags) ++ (x .item .key ++ (0 ∷ []))))) in
         let v = x .item .value in
         let r : s ≡ h ++ (v ++ areaBytes (x .back)) = sym (area-items n s b w) ∙ around x ∙ unfold itemBytes in simp append-assoc in
         let l : length h ≡ k + 1 = simp length-append (omega (arith, x .start, x .key-end)) in

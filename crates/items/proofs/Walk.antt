@@ -16,16 +16,16 @@ use Rattle.lists.specs.Bytes.{placeOf}
 use Rattle.lists.specs.Choice.{isSome}
 use Rattle.lists.specs.Le.{readU32}
 use Rattle.lists.proofs.Numbers.{read-drop}
-use Rattle.items.specs.Items.{sizeOf, Head, head, plainHead, parse}
-use Rattle.items.specs.Answers.{placesOf, stepBy, stepAny, stepOf}
+use Rattle.items.specs.Items.{sizeOf, Head, head as headOf, parse}
+use Rattle.items.specs.Answers.{placesOf, stepOf}
 use Rattle.items.specs.declared.Stepped.{Stepped}
 use Rattle.items.specs.declared.Stepped.the-variants.{Item as ItemAt, Malformed, End}
 use Rattle.items.proofs.Stepped.{enum}
-use Rattle.items.proofs.Area.{Whole, Front, front, head-front, head-unfit, whole, plain, plain-yes, plain-flagged, plain-none, parse-go, map-some}
+use Rattle.items.proofs.Area.{Whole, Front, front, head-front, head-unfit, whole, parse-go, map-some}
 
 -- ---- by the code's numbers
 
-places : (at : ℕ) (h : Head) (g k n : ℕ) → h .flags ≡ g → length (h .item .key) ≡ k → length (h .item .value) ≡ n
+places : (at : ℕ) (h : Head) (g k n : ℕ) → h .item .flags ≡ g → length (h .item .key) ≡ k → length (h .item .value) ≡ n
     → placesOf at h ≡ ItemAt g (at + 8) (at + 8 + k) (at + 8 + k + 1) (at + 8 + k + 1 + n)
 places at h g k n d e f =
     let s : at + sizeOf (h .item) ≡ at + 8 + k + 1 + n = omega arith in
@@ -42,19 +42,19 @@ module _ (s : List ℕ) (at : ℕ) where
   size-at : readU32 (drop at s) 0 ≡ readU32 s at
   size-at = simp (getD-drop, add-zero)
 
-  pub step-end : (f : List ℕ → Option Head) → length s ≤ at → stepBy f s at ≡ End
-  step-end f h = rw (le-leb _ _ h)
+  pub step-end : length s ≤ at → stepOf s at ≡ End
+  step-end h = rw (le-leb _ _ h)
 
-  pub step-cut : at < length s → (keyEnd + 1 + readU32 s at ≤ length s → ⊥) → stepAny s at ≡ Malformed
+  pub step-cut : at < length s → (keyEnd + 1 + readU32 s at ≤ length s → ⊥) → stepOf s at ≡ Malformed
   step-cut h f =
       let no : Front (drop at s) → ⊥ = λ w. f (omega (arith, key-at, size-at, w, length-drop at s)) in
       rw (lt-leb _ _ h, head-unfit (drop at s) no)
 
   pub step-item : at < length s → keyEnd + 1 + readU32 s at ≤ length s
-      → stepAny s at ≡ ItemAt (readU32 s (at + 4)) (at + 8) keyEnd (keyEnd + 1) (keyEnd + 1 + readU32 s at)
+      → stepOf s at ≡ ItemAt (readU32 s (at + 4)) (at + 8) keyEnd (keyEnd + 1) (keyEnd + 1 + readU32 s at)
   step-item h f =
       let fit : Front (drop at s) = omega (arith, key-at, size-at, length-drop at s) in
-      let e : head (drop at s) ≡ some (front (drop at s)) = head-front (drop at s) fit in
+      let e : headOf (drop at s) ≡ some (front (drop at s)) = head-front (drop at s) fit in
       let w = whole (drop at s) (front (drop at s)) e in
       let kl : length (front (drop at s) .item .key) ≡ placeOf 0 (drop (at + 8) s) = w .key-long ∙ rw drop-drop in
       let vl : length (front (drop at s) .item .value) ≡ readU32 s at = w .value-long ∙ size-at in
@@ -65,22 +65,12 @@ module _ (s : List ℕ) (at : ℕ) where
 abbrev pub tag : Stepped → ℕ
 tag r = tagOf (declared enum) r
 
--- a way to take a first item: by `head`, perhaps not every one
-pub record Taking (f : List ℕ → Option Head) : Type 0 where
-  pub is-head : (s : List ℕ) (h : Head) → f s ≡ some h → head s ≡ some h
-
-pub any : Taking head
-any = record { is-head = λ s h e. e }
-
-pub zero-flags : Taking plainHead
-zero-flags = record { is-head = λ s h e. plain s h e .0 }
-
 -- a step that found an item
-pub record Taken (f : List ℕ → Option Head) (s : List ℕ) (at g a b c d : ℕ) : Type 0 where
+pub record Taken (s : List ℕ) (at g a b c d : ℕ) : Type 0 where
   pub head : Head
-  pub is : f (drop at s) ≡ some head
+  pub is : headOf (drop at s) ≡ some head
   pub whole : Whole (drop at s) head
-  pub flags : g ≡ head .flags
+  pub flags : g ≡ head .item .flags
   pub key-start : a ≡ at + 8
   pub key-end : b ≡ at + 8 + length (head .item .key)
   pub value-start : c ≡ at + 8 + length (head .item .key) + 1
@@ -88,35 +78,35 @@ pub record Taken (f : List ℕ → Option Head) (s : List ℕ) (at g a b c d : �
   pub within : d ≤ length s
   pub after : head .rest ≡ drop d s
 
-module _ {f : List ℕ → Option Head} (k : Taking f) (s : List ℕ) (at : ℕ) where
-  found-at : (h : Head) → at < length s → f (drop at s) ≡ some h → stepBy f s at ≡ placesOf at h
+module _ (s : List ℕ) (at : ℕ) where
+  found-at : (h : Head) → at < length s → headOf (drop at s) ≡ some h → stepOf s at ≡ placesOf at h
   found-at h l e = rw (lt-leb _ _ l, e)
 
-  nothing-at : at < length s → f (drop at s) ≡ none → stepBy f s at ≡ Malformed
+  nothing-at : at < length s → headOf (drop at s) ≡ none → stepOf s at ≡ Malformed
   nothing-at l e = rw (lt-leb _ _ l, e)
 
-  pub beyond : length s ≤ at → f (drop at s) ≡ none
-  beyond l = go (f (drop at s)) refl
+  pub beyond : length s ≤ at → headOf (drop at s) ≡ none
+  beyond l = go (headOf (drop at s)) refl
     where
-      go : (o : Option Head) → f (drop at s) ≡ o → f (drop at s) ≡ none
+      go : (o : Option Head) → headOf (drop at s) ≡ o → headOf (drop at s) ≡ none
       go none e = e
       go (some h) e =
-          let w = whole (drop at s) h (k .is-head (drop at s) h e) in
+          let w = whole (drop at s) h e in
           absurd (omega (arith, w .long, length-drop at s))
 
-  pub taken : (g a b c d : ℕ) → ItemAt g a b c d ≡ stepBy f s at → Taken f s at g a b c d
-  taken g a b c d e = go (leb (length s) at) (f (drop at s)) refl refl
+  pub taken : (g a b c d : ℕ) → ItemAt g a b c d ≡ stepOf s at → Taken s at g a b c d
+  taken g a b c d e = go (leb (length s) at) (headOf (drop at s)) refl refl
     where
-      go : (t : Bool) (o : Option Head) → leb (length s) at ≡ t → f (drop at s) ≡ o → Taken f s at g a b c d
+      go : (t : Bool) (o : Option Head) → leb (length s) at ≡ t → headOf (drop at s) ≡ o → Taken s at g a b c d
       go true o p q =
-          let y : stepBy f s at ≡ End = step-end s at f (leb-true _ _ p) in
+          let y : stepOf s at ≡ End = step-end s at (leb-true _ _ p) in
           absurd (let z : _≡_ {A = ℕ} 0 1 = cc in omega arith)
       go false none p q =
-          let y : stepBy f s at ≡ Malformed = nothing-at (leb-false _ _ p) q in
+          let y : stepOf s at ≡ Malformed = nothing-at (leb-false _ _ p) q in
           absurd (let z : _≡_ {A = ℕ} 0 1 = cc in omega arith)
       go false (some h) p q =
           let y : ItemAt g a b c d ≡ placesOf at h = e ∙ found-at h (leb-false _ _ p) q in
-          let w = whole (drop at s) h (k .is-head (drop at s) h q) in
+          let w = whole (drop at s) h q in
           let l : length (drop at s) ≡ length s - at = length-drop at s in
           let less : at < length s = leb-false _ _ p in
           let last : d ≡ at + sizeOf (h .item) = cc in
@@ -134,42 +124,20 @@ module _ {f : List ℕ → Option Head} (k : Taking f) (s : List ℕ) (at : ℕ)
           }
 
   -- a step that found none
-  pub stopped : (r : Stepped) → r ≡ stepBy f s at → (tag r ≡ 1) ⊎ (tag r ≡ 2) → f (drop at s) ≡ none
-  stopped r e n = go (leb (length s) at) (f (drop at s)) refl refl
+  pub stopped : (r : Stepped) → r ≡ stepOf s at → (tag r ≡ 1) ⊎ (tag r ≡ 2) → headOf (drop at s) ≡ none
+  stopped r e n = go (leb (length s) at) (headOf (drop at s)) refl refl
     where
       item : (g a b c d : ℕ) → r ≡ ItemAt g a b c d → ⊥
       item g a b c d y = ⊎-elim (λ q. let z : _≡_ {A = ℕ} 0 1 = sym (ap tag y) ∙ q in omega arith) (λ q. let z : _≡_ {A = ℕ} 0 2 = sym (ap tag y) ∙ q in omega arith) n
 
-      go : (t : Bool) (o : Option Head) → leb (length s) at ≡ t → f (drop at s) ≡ o → f (drop at s) ≡ none
+      go : (t : Bool) (o : Option Head) → leb (length s) at ≡ t → headOf (drop at s) ≡ o → headOf (drop at s) ≡ none
       go true o p q = beyond (leb-true _ _ p)
       go false none p q = q
       go false (some h) p q = absurd (item _ _ _ _ _ (e ∙ found-at h (leb-false _ _ p) q))
 
--- ---- the flags of a step
-
-module _ (s : List ℕ) (at : ℕ) where
-  -- no item at all is none with flags zero
-  pub plain-stop : (r : Stepped) → r ≡ stepAny s at → (tag r ≡ 1) ⊎ (tag r ≡ 2) → r ≡ stepOf s at
-  plain-stop r e n =
-      let h = stopped any s at r e n in
-      let p = plain-none (drop at s) h in
-      e ∙ rw (h, p)
-
-  pub plain-flags : (g a b c d : ℕ) → ItemAt g a b c d ≡ stepAny s at → (g ≡ 0 → ⊥) → Malformed ≡ stepOf s at
-  plain-flags g a b c d e n =
-      let t = taken any s at g a b c d e in
-      let l : at < length s = omega (arith, t .within, t .value-end) in
-      sym (nothing-at zero-flags s at l (plain-flagged (drop at s) (t .head) (t .is) (λ z. n (t .flags ∙ z))))
-
-  pub plain-item : (g a b c d : ℕ) → ItemAt g a b c d ≡ stepAny s at → g ≡ 0 → ItemAt g a b c d ≡ stepOf s at
-  plain-item g a b c d e z =
-      let t = taken any s at g a b c d e in
-      let p = plain-yes (drop at s) (t .head) (t .is) (sym (t .flags) ∙ z) in
-      e ∙ rw (t .is, p)
-
 -- ---- one item fewer is left
 
-module _ {s : List ℕ} {at g a b c d : ℕ} (n : ℕ) (t : Taken plainHead s at g a b c d) (more : 0 < n) where
+module _ {s : List ℕ} {at g a b c d : ℕ} (n : ℕ) (t : Taken s at g a b c d) (more : 0 < n) where
   pub fewer : parse n (drop at s) ≡ Option·map (λ ts. t .head .item ∷ ts) (parse (n - 1) (drop d s))
   fewer = parse-go n (drop at s) (t .head) more (t .is) ∙ rw (t .after)
 
@@ -177,8 +145,8 @@ module _ {s : List ℕ} {at g a b c d : ℕ} (n : ℕ) (t : Taken plainHead s at
   fewer-some = ap isSome fewer ∙ map-some (λ ts. t .head .item ∷ ts) (parse (n - 1) (drop d s))
 
 -- the key, as the code takes it
-pub key-part : {f : List ℕ → Option Head} {s : List ℕ} {at g a b c d : ℕ} (t : Taken f s at g a b c d) → take (b - a) (drop a s) ≡ t .head .item .key
-key-part {f} {s} {at} {g} {a} {b} t =
+pub key-part : {s : List ℕ} {at g a b c d : ℕ} (t : Taken s at g a b c d) → take (b - a) (drop a s) ≡ t .head .item .key
+key-part {s} {at} {g} {a} {b} t =
     let k = t .head .item .key in
     let m : b - a ≡ length k = omega (arith, t .key-start, t .key-end) in
     ap (λ (i : ℕ). take i (drop a s)) m

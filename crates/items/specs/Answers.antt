@@ -1,7 +1,6 @@
 -- What the functions over an area answer, said over its items.
 use Prim.Native.Nat.{ℕ, _+_, _-_}
 use mathlib.Core.Bool.{Bool, true, false, cond}
-use mathlib.Core.Option.{Option}
 use mathlib.Core.List.{List, [], _∷_}
 use lib.ListN.{length, take, drop}
 use lib.Dec.{leb}
@@ -9,7 +8,7 @@ use Rattle.lists.specs.Choice.{found, isSome}
 use Rattle.replies.specs.Refusal.{need, refusalOf, Plan, no, yes, planned, numberOf}
 use Rattle.replies.specs.declared.Refusal.the-variants.{MalformedArea, BadKey}
 use Rattle.keys.specs.Keys.{sameKey, isKey}
-use Rattle.items.specs.Items.{Item, Head, sizeOf, head, plainHead, parse}
+use Rattle.items.specs.Items.{Item, Head, sizeOf, head, parse}
 use Rattle.items.specs.declared.Stepped.{Stepped}
 use Rattle.items.specs.declared.Stepped.the-variants.{Item as ItemAt, Malformed as BadItem, End}
 use Rattle.items.specs.declared.Place.{Place}
@@ -22,19 +21,11 @@ use Rattle.items.specs.declared.Found.the-variants.{Value, Nothing, Refu
 -- where the parts of an item stand that begins at `at`
 abbrev pub placesOf : ℕ → Head → Stepped
 placesOf at h =
-    ItemAt (h .flags) (at + 8) (at + 8 + length (h .item .key)) (at + 8 + length (h .item .key) + 1) (at + sizeOf (h .item))
+    ItemAt (h .item .flags) (at + 8) (at + 8 + length (h .item .key)) (at + 8 + length (h .item .key) + 1) (at + sizeOf (h .item))
 
--- what stands at a place, by what is taken for a first item
-abbrev pub stepBy : (List ℕ → Option Head) → List ℕ → ℕ → Stepped
-stepBy f s at = cond (leb (length s) at) End (found (f (drop at s)) BadItem (λ h. placesOf at h))
-
--- any item
-abbrev pub stepAny : List ℕ → ℕ → Stepped
-stepAny s at = stepBy head s at
-
--- an item of an area: flags zero
+-- what stands at a place
 abbrev pub stepOf : List ℕ → ℕ → Stepped
-stepOf s at = stepBy plainHead s at
+stepOf s at = cond (leb (length s) at) End (found (head (drop at s)) BadItem (λ h. placesOf at h))
 
 -- ---- the first match
 

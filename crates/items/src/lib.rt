@@ -1,10 +1,10 @@
-// The item area: exactly `count` items, one after another, flags zero. It stands for the source's `ApeTag`.
+// The item area: exactly `count` items, one after another. It stands for the source's `ApeTag`.
 ghost use mathlib.Core.Path.{_≡_};
 ghost use Prim.Native.Nat.{_≤_};
 ghost use lib.ListN.{length, drop};
 ghost use Rattle.lists.specs.Choice.{isSome};
-ghost use Rattle.items.specs.Items.{parse};
-ghost use Rattle.items.specs.Answers.{stepAny, stepOf, locateOf, findOf, valueOf, replyTo, isThere};
+ghost use Rattle.items.specs.Items.{typeOf, isBinary, asText, parse};
+ghost use Rattle.items.specs.Answers.{stepOf, locateOf, findOf, valueOf, replyTo, isThere};
 use replies::Refusal;
 
 // What stands at a place of an area.
@@ -38,9 +38,30 @@ pub enum Found {
     Refused(Refusal),
 }
 
-// The item that begins at `at`, whatever its flags.
-pub fn step_any(area: &[u8], at: usize) -> Stepped
-    ensures { λ r. ⌜ r ≡ stepAny (now (area .entry)) at ⌝ }
+// The type of an item's value, bits 2..1 of its flags: 0 text, 1 binary, 2 external, 3 reserved.
+pub fn type_of(flags: u32) -> u32
+    ensures { λ r. ⌜ r ≡ typeOf flags ⌝ }
+{
+    flags / 2 % 4
+}
+
+// Whether an item with these flags has a binary value.
+pub fn is_binary(flags: u32) -> bool
+    ensures { λ r. ⌜ r ≡ isBinary flags ⌝ }
+{
+    type_of(flags) == 1
+}
+
+// The flags of a value that is set: bit 0 stays, and all others go, so that it is text.
+pub fn as_text(flags: u32) -> u32
+    ensures { λ r. ⌜ r ≡ asText flags ⌝ }
+{
+    flags % 2
+}
+
+// The one step over an area: the item that begins at `at`.
+pub fn step(area: &[u8], at: usize) -> Stepped
+    ensures { λ r. ⌜ r ≡ stepOf (now (area .entry)) at ⌝ }
 {
     if area.len() <= at {
         return Stepped::End;
@@ -60,27 +81,6 @@ pub fn step_any(area: &[u8], at: usize) -> Stepped
         value_start: key_end + 1,
         value_end: key_end + 1 + n,
     }
-}
-
-// The one step over an area: the item that begins at `at`, with flags zero.
-pub fn step(area: &[u8], at: usize) -> Stepped
-    ensures { λ r. ⌜ r ≡ stepOf (now (area .entry)) at ⌝ }
-{
-    let s = step_any(area, at);
-    let Stepped::Item {
-        flags,
-        key_start: _,
-        key_end: _,
-        value_start: _,
-        value_end: _,
-    } = s
-    else {
-        return s;
-    };
-    if flags != 0 {
-        return Stepped::Malformed;
-    }
-    s
 }
 
 // Whether exactly `count` items stand from `at` to the end.

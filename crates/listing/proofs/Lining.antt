@@ -13,9 +13,9 @@ use Rattle.items.proofs.Loops.{Left, begin, Turn, items-none}
 use Rattle.listing.specs.Listing.{line, lines}
 use Rattle.listing.proofs.Printing.{all-short}
 
-pub line-short : (t : Item) → length (line t) ≤ 3 * length (t .key) + 3 * length (t .value) + 2
+pub line-short : (key value : List ℕ) → length (line key value) ≤ 3 * length key + 3 * length value + 2
 unfolding line
-line-short t = simp length-append (omega (arith, all-short true (t .key), all-short false (t .value)))
+line-short key value = simp length-append (omega (arith, all-short true key, all-short false value))
 
 -- done is written, and the lines of the `left` items from `from` to the end are to come
 pub record Lining (s : List ℕ) (count : ℕ) (out₀ : List ℕ) (at : ℕ) (out : List ℕ) (from left o : ℕ) : Type 0 where
@@ -35,28 +35,25 @@ module _ {s : List ℕ} {count : ℕ} {out₀ out : List ℕ} {at from left o a 
   pub line-room : o + (3 * length (part a b s) + 3 * length (part c d s) + 2) ≤ length out
   line-room = rw (t .key, t .value) (omega (arith, x .room, x .long, t .end, t .rest .within))
 
-  more-same : lines (itemsIn count s) ≡ (x .done ++ line (t .item)) ++ lines (itemsIn (left - 1) (drop d s))
+  more-same : lines (itemsIn count s) ≡ (x .done ++ line (t .item .key) (t .item .value)) ++ lines (itemsIn (left - 1) (drop d s))
   unfolding lines
   more-same =
       x .same
       ∙ ap (λ (ts : List Item). x .done ++ lines ts) (t .list)
-      ∙ sym (append-assoc (x .done) (line (t .item)) (lines (itemsIn (left - 1) (drop d s))))
-
-  item-is : record { key = part a b s; value = part c d s } ≡ t .item
-  item-is = rw (t .key, t .value)
+      ∙ sym (append-assoc (x .done) (line (t .item .key) (t .item .value)) (lines (itemsIn (left - 1) (drop d s))))
 
   pub line-more : (o′ : ℕ) (out′ : List ℕ) → length out′ ≡ length out
-      → (o′ ≡ o + length (line (record { key = part a b s; value = part c d s }))) × (out′ ≡ splice out o (line (record { key = part a b s; value = part c d s })))
+      → (o′ ≡ o + length (line (part a b s) (part c d s))) × (out′ ≡ splice out o (line (part a b s) (part c d s)))
       → Lining s count out₀ at out′ d (left - 1) o′
   line-more o′ out′ l h =
-      let e = rw item-is at h in
+      let e = rw (t .key, t .value) at h in
       record {
         todo = t .rest;
-        done = x .done ++ line (t .item);
+        done = x .done ++ line (t .item .key) (t .item .value);
         same = more-same;
-        wrote = next (x .wrote) (line (t .item)) e;
+        wrote = next (x .wrote) (line (t .item .key) (t .item .value)) e;
         long = l ∙ x .long;
-        room = omega (arith, x .room, e .0, line-short (t .item), t .end, t .rest .within);
+        room = omega (arith, x .room, e .0, line-short (t .item .key) (t .item .value), t .end, t .rest .within);
       }
 
 pub line-end : {s : List ℕ} {count : ℕ} {out₀ out : List ℕ} {at from left o : ℕ} (x : Lining s count out₀ at out from left o) → left ≡ 0

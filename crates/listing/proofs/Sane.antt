@@ -1,5 +1,5 @@
 -- The items that are read have keys without a zero byte, so they are read back from their area.
-use Prim.Native.Nat.{ℕ, zero, suc, _+_, _*_, _≤_}
+use Prim.Native.Nat.{ℕ, zero, suc, _+_, _-_, _*_, _≤_, _<_}
 use native.Mathlib.Omega.{arith}
 use mathlib.Core.Path.{_≡_, refl, ap, _∙_}
 use mathlib.Core.Bool.{Bool, true, false, _&&_, cond}
@@ -7,12 +7,14 @@ use mathlib.Core.Option.{Option, none, some}
 use mathlib.Core.List.{List, [], _∷_, _++_}
 use lib.ListN.{length, take, drop, length-take, length-drop}
 use lib.Dec.{eqb, leb}
-use Rattle.lists.specs.Bytes.{placeOf}
+use Rattle.lists.specs.Bytes.{Small, placeOf}
+use Rattle.lists.proofs.Places.{small-drop}
 use Rattle.utf8.specs.declared.Part.{Part}
 use Rattle.utf8.specs.declared.Part.the-variants.{Good, Bad, End}
 use Rattle.utf8.specs.Utf8.{stepOf, size, after}
 use Rattle.lossy.specs.Lossy.{textOf, lossyFrom, lossy}
-use Rattle.items.specs.Items.{Item, Head, head, areaBytes}
+use Rattle.lossy.proofs.Lists.{small-take}
+use Rattle.items.specs.Items.{Item, Head, head, areaBytes, sizeOf}
 use Rattle.items.proofs.Area.{AllSane, whole}
 use Rattle.ape.specs.declared.Footer.{Footer}
 use Rattle.ape.specs.declared.Footer.the-variants.{At, Nowhere}
@@ -67,14 +69,17 @@ key-sane s h e =
     let k : h .item .key ≡ take (placeOf 0 (drop 8 s)) (drop 8 s) = w .key-is ∙ ap (λ (i : ℕ). take i (drop 8 s)) (w .key-long) in
     no-place (lossyFrom 0 (h .item .key)) (lossy-from 0 (h .item .key) (rw k (before-zero (drop 8 s))))
 
-read-sane : (n : ℕ) (s : List ℕ) → AllSane (readItems n s)
+read-sane : (n : ℕ) (s : List ℕ) → Small s → AllSane (readItems n s)
 unfolding readItems
-read-sane zero s = tt
-read-sane (suc n) s = go (head s) refl (λ r. read-sane n r)
+read-sane zero s b = tt
+read-sane (suc n) s b = go (head s) refl (λ r. read-sane n r)
   where
-    go : (o : Option Head) → head s ≡ o → ((r : List ℕ) → AllSane (readItems n r)) → AllSane (readItems (suc n) s)
+    go : (o : Option Head) → head s ≡ o → ((r : List ℕ) → Small r → AllSane (readItems n r)) → AllSane (readItems (suc n) s)
     go none e ih = rw e tt
-    go (some h) e ih = rw e (key-sane s h e, ih (h .rest))
+    go (some h) e ih =
+        let w = whole s h e in
+        let r : Small (h .rest) = rw (w .after) (small-drop s (sizeOf (h .item)) b) in
+        rw e ((key-sane s h e, omega (arith, w .flags-are, b 4, b 5, b 6, b 7)), ih (h .rest) r)
 
 -- what the items of a file's tag are: they can be read back, and they have at most three times the file's bytes
 module _ (file : List ℕ) (ts : List Item) where
@@ -85,17 +90,21 @@ module _ (file : List ℕ) (ts : List Item) where
   unfolding areaAt
   area-short f = simp (length-take, length-drop) (omega arith)
 
-  good : (f : ℕ) (b : Bool) → cond b (some (here f)) none ≡ some ts → AllSane ts × (length (areaBytes ts) ≤ 3 * length file)
+  area-small : (f : ℕ) → Small file → Small (areaAt file f)
+  unfolding areaAt
+  area-small f b = small-take (sizeAt file f - 32) (drop (f + 32 - sizeAt file f) file) (small-drop file (f + 32 - sizeAt file f) b)
+
+  good : (f : ℕ) (b : Bool) → cond b (some (here f)) none ≡ some ts → (Small file → AllSane ts) × (length (areaBytes ts) ≤ 3 * length file)
   good f true q =
       let z : here f ≡ ts = cc in
-      (rw z at (read-sane (countAt file f) (areaAt file f)), omega (arith, ap (λ us. length (areaBytes us)) z, read-long (countAt file f) (areaAt file f), area-short f))
+      (λ b. rw z at (read-sane (countAt file f) (areaAt file f) (area-small f b)), omega (arith, ap (λ us. length (areaBytes us)) z, read-long (countAt file f) (areaAt file f), area-short f))
   good f false q = absurd (let z : _≡_ {A = ℕ} 0 1 = cc in omega arith)
 
-  pub tag-items : readTag file ≡ some ts → AllSane ts × (length (areaBytes ts) ≤ 3 * length file)
+  pub tag-items : readTag file ≡ some ts → (Small file → AllSane ts) × (length (areaBytes ts) ≤ 3 * length file)
   unfolding readTag
   tag-items e = go (findFooter file) e
     where
       go : (x : Footer) → footed x none (λ f. cond (eqb (versionAt file f) 2000 && leb (sizeAt file f) (f + 32)) (some (here f)) none) ≡ some ts
-          → AllSane ts × (length (areaBytes ts) ≤ 3 * length file)
+          → (Small file → AllSane ts) × (length (areaBytes ts) ≤ 3 * length file)
       go Nowhere q = absurd (let z : _≡_ {A = ℕ} 0 1 = cc in omega arith)
       go (At f) q = good f (eqb (versionAt file f) 2000 && leb (sizeAt file f) (f + 32)) q

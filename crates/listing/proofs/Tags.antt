@@ -9,7 +9,7 @@ use lib.ListN.{length, take, length-take}
 use lib.Seq.{take-at}
 use lib.Dec.{leb, eqb}
 use borrow.Author.Tests.{le-leb, lt-leb}
-use Rattle.lists.specs.Bytes.{ascii}
+use Rattle.lists.specs.Bytes.{Small, ascii}
 use Rattle.lists.specs.Write.{over}
 use Rattle.replies.specs.Refusal.{yes}
 use Rattle.replies.specs.declared.Refusal.{Refusal}
@@ -73,14 +73,14 @@ read-refused none e f = let z : _≡_ {A = ℕ} 0 1 = cc in absurd (omega arith)
 read-refused (some ts) e f = let z : _≡_ {A = ℕ} 0 1 = cc in absurd (omega arith)
 
 -- the items stand at the front of the array
-pub items-back : (file : List ℕ) → length file ≤ 16384 → {n l : ℕ} (x : Read (readTag file) n l) (new old : List ℕ) → new ≡ over (readArea (readTag file)) old
+pub items-back : (file : List ℕ) → Small file → length file ≤ 16384 → {n l : ℕ} (x : Read (readTag file) n l) (new old : List ℕ) → new ≡ over (readArea (readTag file)) old
     → (parse n (take (l - 0) new) ≡ some (x .items)) × (length (take (l - 0) new) ≡ l) × (l ≤ 3 * length file)
-items-back file h {n} {l} x new old e =
+items-back file b h {n} {l} x new old e =
     let f = tag-items file (x .items) (x .is) in
     let w : new ≡ over (areaBytes (x .items)) old = e ∙ ap (λ o. over (readArea o) old) (x .is) in
     let t : take (l - 0) new ≡ areaBytes (x .items) =
     ap (λ (s : List ℕ). take (l - 0) s) w ∙ take-at (areaBytes (x .items)) _ (l - 0) (omega (arith, x .long)) in (
-      read-back (x .items) new old l n w (x .long) (x .counted) (f .0) (omega (arith, f .1, h)),
+      read-back (x .items) new old l n w (x .long) (x .counted) (f .0 b) (omega (arith, f .1, h)),
       omega (arith, ap length t, x .long),
       omega (arith, f .1, x .long),
     )

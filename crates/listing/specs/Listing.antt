@@ -33,13 +33,13 @@ printedAll key [] = []
 printedAll key (b ∷ s) = printed key b ++ printedAll key s
 
 -- `key=value` and LF
-unfoldable pub line : Item → List ℕ
-line t = ((printedAll true (t .key) ++ (0x3D ∷ [])) ++ printedAll false (t .value)) ++ (0x0A ∷ [])
+unfoldable pub line : List ℕ → List ℕ → List ℕ
+line key value = ((printedAll true key ++ (0x3D ∷ [])) ++ printedAll false value) ++ (0x0A ∷ [])
 
 -- a line for each item
 unfoldable pub lines : List Item → List ℕ
 lines [] = []
-lines (t ∷ ts) = line t ++ lines ts
+lines (t ∷ ts) = line (t .key) (t .value) ++ lines ts
 
 -- the number of items that were read, and their lines
 unfoldable pub listed : Option (List Item) → List ℕ

@@ -74,7 +74,7 @@ fn put_text(out: &mut [u8], at: usize, key: bool, s: &[u8]) -> usize
 // Writes the line of an item.
 fn put_line(out: &mut [u8], at: usize, key: &[u8], value: &[u8]) -> usize
     requires { ⌜ at + (3 * length (now key) + 3 * length (now value) + 2) ≤ length (now out) ⌝ }
-    ensures { λ r. ⌜ (let new = L.line (record { key = now (key .entry); value = now (value .entry) }) in
+    ensures { λ r. ⌜ (let new = L.line (now (key .entry)) (now (value .entry)) in
         (r ≡ at + length new) × (now (out .exit) ≡ splice (now (out .entry)) at new)) ⌝ }
 {
     let a = put_text(out, at, true, key);

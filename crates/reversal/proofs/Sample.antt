@@ -18,33 +18,36 @@ use Rattle.frame.specs.Tail.{standsAt, startOf, tagStart}
 use Rattle.utf8.specs.Utf8.{numberOf, classAt, stepOf, validFrom, valid}
 use Rattle.utf8.specs.Utf8 as utf8
 use Rattle.lossy.proofs.Lists.{small-all}
-use Rattle.items.specs.Items.{itemBytes, areaBytes, headAt, head, plainHead, parse, getItem, setItem, without}
+use Rattle.items.specs.Items.{itemBytes, areaBytes, headAt, head, parse, getItem, setItem, without}
 use Rattle.ape.specs.Tag.{blockBytes, tagBytes, serialize, findFooter, areaAt, moved, split, fileOf, replaced}
-use Rattle.calls.specs.Gate.{headerAt, fit, allValid, gateItems, passesGate, itemsOf, tagFits}
+use Rattle.calls.specs.Gate.{headerAt, fit, itemValid, allValid, gateItems, passesGate, itemsOf, tagFits}
 use Rattle.calls.specs.Calls.{setPlan, removePlan, staying, shiftItem, shiftStoredGain, storedUndo, booked, least, greatest, shiftedItems, levelItems, countOf, isPeakKey, levelPlan}
-use Rattle.calls.specs.Figures.{fives}
-use Rattle.book.specs.Book.{settled}
-use Rattle.reversal.specs.Run.{set, remove, onLeft, onRight, editPlan, outcome, accepts, next, run, acceptedLevels, acceptedEdits}
+use Rattle.calls.specs.Figures.{flagged, item, fives}
+use Rattle.book.specs.Book.{settled, bookOf, bookFile}
+use Rattle.reversal.specs.Run.{set, remove, onLeft, onRight, editPlan, feed, fed, bookAfter, outcome, accepts, next, run, acceptedLevels, acceptedEdits}
 use Rattle.reversal.specs.Demand.{Apart, Given, Restored, Demand3}
 use Rattle.reversal.specs.Sample.{start, apartBy, calls}
 use Rattle.reversal.proofs.Demand.{demand3}
 
--- which of its calls are accepted, and how long the file is that undo gets
+-- which of its calls are accepted, how long the file is that undo gets, and the file that it gives
 pub record Ran : Type 0 where
   pub levels : acceptedLevels start calls ≡ fives ∷ apartBy ∷ []
   pub edits : acceptedEdits start calls ≡ set (ascii "Title") (ascii "x") 100 ∷ set (ascii "NOTE") (ascii "z") 1000 ∷ remove (ascii "title") 1000 ∷ []
-  pub long : length ((run start calls) .file) ≡ 143
+  pub long : length ((run start calls) .file) ≡ 159
+  -- the picture and its flags are in the book's file, which the undo gives
+  pub book : bookFile (bookAfter start calls)
+      ≡ 1 ∷ 2 ∷ 3 ∷ serialize (flagged 3 (ascii "Cover") (0xFF ∷ 0xD8 ∷ []) ∷ item (ascii "NOTE") (ascii "z") ∷ [])
 
 pub ran : Ran
-unfolding start calls all same startsWith placeOf upper upperAll sameKey whichOf keys whichKey isFrom undoKey minmaxKey isReserved isKey before behind field isDigit digitsFrom natural isMinus unsigned whole i32 u8 isSpace trimLeft keep trimRight trim places decimal signed formatRange parseRange shiftRange kindOf shiftStored formatUndo parseUndo undoWraps accumulated adjust standsAt startOf tagStart numberOf classAt utf8.run stepOf validFrom valid itemBytes areaBytes headAt head plainHead parse getItem setItem without blockBytes tagBytes serialize findFooter areaAt moved split fileOf replaced headerAt fit allValid gateItems passesGate itemsOf tagFits setPlan removePlan staying shiftItem shiftStoredGain storedUndo booked least greatest shiftedItems levelItems countOf isPeakKey levelPlan editPlan outcome accepts next run acceptedLevels acceptedEdits
-ran = record { levels = refl; edits = refl; long = refl }
+unfolding start calls all same startsWith placeOf upper upperAll sameKey whichOf keys whichKey isFrom undoKey minmaxKey isReserved isKey before behind field isDigit digitsFrom natural isMinus unsigned whole i32 u8 isSpace trimLeft keep trimRight trim places decimal signed formatRange parseRange shiftRange kindOf shiftStored formatUndo parseUndo undoWraps accumulated adjust standsAt startOf tagStart numberOf classAt utf8.run stepOf validFrom valid itemBytes areaBytes headAt head parse getItem setItem without blockBytes tagBytes serialize findFooter areaAt moved split fileOf replaced headerAt fit itemValid allValid gateItems passesGate itemsOf tagFits setPlan removePlan staying shiftItem shiftStoredGain storedUndo booked least greatest shiftedItems levelItems countOf isPeakKey levelPlan editPlan outcome accepts next run acceptedLevels acceptedEdits bookOf bookFile feed fed bookAfter
+ran = record { levels = refl; edits = refl; long = refl; book = refl }
 
 -- two level calls are accepted
 some-level : ¬ (acceptedLevels start calls ≡ [])
 some-level e = let z : _≡_ {A = ℕ} 2 0 = ap length (sym (ran .levels) ∙ e) in omega arith
 
-pub given : Given start calls 143
-unfolding start calls settled countOf Apart all same startsWith upper upperAll sameKey whichOf keys whichKey isFrom standsAt serialize findFooter moved split fileOf replaced gateItems passesGate itemsOf
+pub given : Given start calls 159
+unfolding start calls settled countOf Apart all same startsWith placeOf upper upperAll sameKey whichOf keys whichKey isFrom standsAt startOf tagStart numberOf classAt utf8.run stepOf validFrom valid itemBytes areaBytes headAt head parse blockBytes tagBytes serialize findFooter areaAt moved split fileOf replaced headerAt fit itemValid allValid gateItems passesGate itemsOf
 given = record {
   settled-file = refl;
   none-of-eight = refl;
@@ -54,6 +57,6 @@ given = record {
   long = omega (arith, ran .long);
 }
 
-pub restored : Restored start calls 143
+pub restored : Restored start calls 159
 unfolding Demand3
-restored = demand3 start calls 143 given
+restored = demand3 start calls 159 given

@@ -3,13 +3,14 @@ use mathlib.Core.List.{List, [], _∷_}
 use lib.IntN.{pos, negsuc}
 use Rattle.lists.specs.Bytes.{ascii}
 use Rattle.frame.specs.declared.GainMode.the-variants.{Saturating, Wrapping}
+use Rattle.ape.specs.Tag.{serialize}
 use Rattle.calls.specs.Calls.{Level}
-use Rattle.calls.specs.Figures.{by, fives}
+use Rattle.calls.specs.Figures.{flagged, by, fives}
 use Rattle.reversal.specs.Run.{set, remove, Call, level, edit, State}
 
--- three bytes, and gains of which one begins at 0 and one will be clamped
+-- three bytes, a read-only picture that is not UTF-8, and gains of which one begins at 0 and one will be clamped
 unfoldable pub start : State
-start = record { file = 1 ∷ 2 ∷ 3 ∷ []; left = 10 ∷ 0 ∷ 252 ∷ []; right = 7 ∷ [] }
+start = record { file = 1 ∷ 2 ∷ 3 ∷ serialize (flagged 3 (ascii "Cover") (0xFF ∷ 0xD8 ∷ []) ∷ []); left = 10 ∷ 0 ∷ 252 ∷ []; right = 7 ∷ [] }
 
 -- unequal steps
 abbrev pub apartBy : Level

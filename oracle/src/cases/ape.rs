@@ -1,6 +1,6 @@
 //! Crates `ape`, `ape_write` and `ape_replace`: the footer found, the tag read, serialized and replaced, on whole files.
 
-use super::Case;
+use super::{flags, Case};
 use crate::ape::{find_ape_footer, reach, read_ape_tag, ApeItem, ApeTag};
 use crate::tools::{hex, Bench, Compare, Record, Rng};
 use std::hint::black_box;
@@ -140,12 +140,15 @@ pub fn written(room: usize, call: impl Fn(&mut [u8]) -> Result<usize, u32>) -> R
     Ok(out)
 }
 
-/// The count and the area that the published reader gives.
-fn published_read(file: &[u8]) -> Option<(usize, Vec<u8>)> {
+/// The count and the area that the published reader gives; a tag with flags is read by `flags`.
+pub fn published_read(file: &[u8]) -> Option<(usize, Vec<u8>)> {
+    if flags::in_file(file) {
+        return flags::read(file);
+    }
     read_ape_tag(file).map(|tag| (tag.len(), area_of(&tag)))
 }
 
-fn our_read(file: &[u8]) -> Option<(usize, Vec<u8>)> {
+pub fn our_read(file: &[u8]) -> Option<(usize, Vec<u8>)> {
     let mut count = None;
     let area =
         written(3 * file.len() + 64, |out| library::read_ape_tag(file, out).map(|t| t.map_or(0, |(_, length)| length)));
@@ -386,15 +389,12 @@ pub fn both(c: &mut Compare, file: &[u8], tags: &[ApeTag]) {
     }
 }
 
-/// Document 01's rule for an item area, read independently: exactly `count` items, flags zero, nothing behind them.
+/// The rule for an item area, read independently: exactly `count` items, with any flags, and nothing behind them.
 pub fn is_area(area: &[u8], count: usize) -> bool {
     let mut rest = area;
     for _ in 0..count {
         let Some(head) = rest.get(..8) else { return false };
         let length = u32::from_le_bytes(head[..4].try_into().unwrap()) as usize;
-        if head[4..] != [0; 4] {
-            return false;
-        }
         let Some(key) = rest[8..].iter().position(|&b| b == 0) else { return false };
         let Some(next) = rest.get(8 + key + 1 + length..) else { return false };
         rest = next;
@@ -561,6 +561,15 @@ fn record(r: &mut Record) {
         let (front, rest) = published_split(file);
         let rest = rest.map_or("none".to_string(), |(from, to)| format!("{from} {to}"));
         r.line(&words(&[&"split", &hex(file), &front, &rest]));
+    }
+    for file in flags::each_type() {
+        let (count, area) = published_read(&file).unwrap();
+        r.line(&words(&[&"read", &hex(&file), &count, &hex(&area)]));
+    }
+    for (area, count) in flags::small_areas() {
+        let tag = flags::serialize(&area, count).unwrap();
+        r.line(&words(&[&"serialize", &count, &hex(&area), &hex(&tag)]));
+        r.line(&words(&[&"replace", &hex(b"audio"), &count, &hex(&area), &hex(&[b"audio", &tag[..]].concat())]));
     }
 }
 

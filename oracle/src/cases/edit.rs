@@ -5,7 +5,7 @@
 //! accepted call does to the tag, the file and the gains is the published Rust's.
 
 use super::ape::{area_of, edge_files, headed_files, is_area, item, random_file, tag_of, written};
-use super::{ape, level, listing, shift, Case};
+use super::{ape, flags, level, listing, shift, Case};
 use crate::ape::{find_ape_footer, parse_undo_values, parse_undo_wrap, reach, read_ape_tag, ApeItem, ApeTag};
 use crate::frame::{adjust_gain_value, read_u32_le, GainMode};
 use crate::tools::{hex, Bench, Compare, Record, Rng};
@@ -151,7 +151,10 @@ pub fn gate(file: &[u8]) -> Option<ApeTag> {
 }
 
 /// The same as places: the items end at the footer, and stand nowhere without one.
-fn gate_places(file: &[u8]) -> Result<(usize, usize, usize), u32> {
+pub fn gate_places(file: &[u8]) -> Result<(usize, usize, usize), u32> {
+    if flags::in_file(file) {
+        return flags::gate_places(file);
+    }
     let tag = gate(file).ok_or(8u32)?;
     let end = find_ape_footer(file).unwrap_or(0);
     Ok((end - area_of(&tag).len(), end, tag.len()))
@@ -178,7 +181,11 @@ pub fn finish(file: &[u8], tag: &ApeTag) -> Result<Vec<u8>, u32> {
     }
 }
 
+// Of tags with flags the published Rust is not asked, here and below.
 pub fn published_set(file: &[u8], key: &[u8], value: &[u8]) -> Result<Vec<u8>, u32> {
+    if flags::in_file(file) {
+        return flags::set_ape_item(file, key, value);
+    }
     if file.len() > LIMIT {
         return Err(1);
     }
@@ -192,6 +199,9 @@ pub fn published_set(file: &[u8], key: &[u8], value: &[u8]) -> Result<Vec<u8>, u
 }
 
 pub fn published_remove(file: &[u8], key: &[u8]) -> Result<Vec<u8>, u32> {
+    if flags::in_file(file) {
+        return flags::remove_ape_item(file, key);
+    }
     if file.len() > LIMIT {
         return Err(1);
     }
@@ -217,7 +227,10 @@ pub fn moved(gains: &[u8], steps: i32, wrap: bool) -> Vec<u8> {
     gains.iter().map(|&g| adjust_gain_value(g, steps, GainMode::from_wrap(wrap))).collect()
 }
 
-fn published_undo(file: &[u8], left: &[u8], right: &[u8]) -> Result<Levelled, u32> {
+pub fn published_undo(file: &[u8], left: &[u8], right: &[u8]) -> Result<Levelled, u32> {
+    if flags::in_file(file) {
+        return flags::undo(file, left, right);
+    }
     if file.len() > LIMIT {
         return Err(1);
     }
@@ -458,6 +471,11 @@ fn compare(c: &mut Compare) {
         undoes(c, &file, b"\x00\x01\x80", b"\xFF");
         as_before(c, &file);
     }
+    // What mp3gain wrote has its header.
+    let tagged = include_bytes!("../../tagged/mp3gain.mp3");
+    assert!(gate(tagged).is_some());
+    edits(c, tagged, b"Ab", b"new");
+    undoes(c, tagged, b"\x00\x01\x80", b"\xFF");
     for n in 32_740..=32_775 {
         let file = reach::replace(b"audio", &tag_of(vec![item("AB", &"v".repeat(n))]));
         edits(c, &file, b"CD", b"v");
@@ -523,13 +541,16 @@ fn record(r: &mut Record) {
         items.push(item("MP3GAIN_UNDO", "+003,-002,W"));
         lines(r, &reach::replace(b"audio", &tag_of(items)), b"ONE_MORE", b"v", b"\x07", b"\x80");
     }
+    for file in &flags::small_files()[..3] {
+        lines(r, file, b"ab", b"new", b"\x07", b"\x80");
+    }
     shift::record(r);
     level::record(r);
     // `gate FILE REPLY START END COUNT`.
     let random: Vec<_> = (0..100).map(|_| edited_file(&mut r.rng)).collect();
     // Of the headers every fifth: each of the 32 bytes is among them, and bit 29.
     let headed = headed_files(&[0], &[0x8000_0000]);
-    for file in edge_files().iter().chain(&random).chain(headed.iter().step_by(5)) {
+    for file in edge_files().iter().chain(&random).chain(headed.iter().step_by(5)).chain(&flags::each_type()) {
         let (reply, (start, end, count)) = gate_places(file).map_or_else(|n| (n, (0, 0, 0)), |places| (0, places));
         let numbers = [reply as usize, start, end, count].map(|n| n.to_string());
         r.line(&[&["gate".into(), hex(file)], &numbers[..]].concat());

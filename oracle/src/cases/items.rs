@@ -1,7 +1,7 @@
 //! Crates `keys`, `items`, `area_edit`, `area_drop`, `area_values` and `area_gains`: the item area beside the published `ApeTag`.
 
 use super::ape::{self, area_of, is_area, item, tag_of, written};
-use super::Case;
+use super::{flags, Case};
 use crate::ape::{
     reach, read_ape_tag, ApeReplayGain, ApeTag, MP3GAIN_VALUE_KEYS, REPLAYGAIN_KEYS, TAG_MP3GAIN_UNDO, UNDONE_KEYS,
 };
@@ -12,7 +12,7 @@ use std::hint::black_box;
 pub const CASE: Case = Case { name: "items", record, compare, bench };
 
 /// The exported functions, as Rust, and safe wrappers. A refusal is `Err` with its number.
-mod library {
+pub mod library {
     extern "C" {
         fn zib_is_key(key: *const u8, length: usize) -> bool;
         fn zib_which_key(key: *const u8, length: usize) -> usize;
@@ -21,6 +21,7 @@ mod library {
             length: usize,
             at: usize,
             there: *mut u32,
+            flags: *mut u32,
             key_start: *mut usize,
             key_end: *mut usize,
             value_start: *mut usize,
@@ -143,14 +144,17 @@ mod library {
         (place < 8).then_some(place)
     }
 
-    /// Where the key and the value of an item start and end.
-    pub fn item_at(area: &[u8], at: usize) -> Result<Option<[usize; 4]>, u32> {
-        let (mut there, [mut a, mut b, mut c, mut d]) = (7, [7; 4]);
-        let reply = unsafe { zib_item_at(area.as_ptr(), area.len(), at, &mut there, &mut a, &mut b, &mut c, &mut d) };
-        match (reply, there, [a, b, c, d]) {
-            (0, 0, [0, 0, 0, 0]) => Ok(None),
-            (0, 1, places) => Ok(Some(places)),
-            (r, 7, [7, 7, 7, 7]) if r != 0 => Err(r),
+    /// The flags of an item, and where its key and its value start and end.
+    pub fn item_at(area: &[u8], at: usize) -> Result<Option<(u32, [usize; 4])>, u32> {
+        let (mut there, mut flags, [mut a, mut b, mut c, mut d]) = (7, 7, [7; 4]);
+        let reply = unsafe {
+            let s = area.as_ptr();
+            zib_item_at(s, area.len(), at, &mut there, &mut flags, &mut a, &mut b, &mut c, &mut d)
+        };
+        match (reply, there, flags, [a, b, c, d]) {
+            (0, 0, 0, [0, 0, 0, 0]) => Ok(None),
+            (0, 1, flags, places) => Ok(Some((flags, places))),
+            (r, 7, 7, [7, 7, 7, 7]) if r != 0 => Err(r),
             other => panic!("zib_item_at answers {other:?}"),
         }
     }
@@ -248,7 +252,7 @@ mod library {
 
 /// A call on an area.
 #[derive(Debug, Clone)]
-enum Op {
+pub enum Op {
     Get(Vec<u8>),
     Set(Vec<u8>, Vec<u8>),
     Remove(Vec<u8>),
@@ -264,7 +268,7 @@ enum Op {
 
 /// What a call answers: a value, an area with its count, or a number of steps.
 #[derive(Debug, Clone, PartialEq)]
-enum Answer {
+pub enum Answer {
     Value(Option<Vec<u8>>),
     Area(usize, Vec<u8>),
     Steps(Option<i32>),
@@ -338,7 +342,7 @@ impl Texts {
 }
 
 /// The refusals of a call on a good area, as document 01 says.
-fn refused(op: &Op) -> Result<(), u32> {
+pub fn refused(op: &Op) -> Result<(), u32> {
     if let Op::Get(key) | Op::Set(key, _) | Op::Remove(key) = op {
         if !is_key(key) {
             return Err(3);
@@ -384,8 +388,11 @@ fn applied(texts: Texts, tag: &mut ApeTag, op: &Op) -> Answer {
     Answer::Area(tag.len(), texts.area(tag))
 }
 
-/// The refusals, and else what the published `ApeTag` does.
-fn published(area: &[u8], count: usize, op: &Op) -> Result<Answer, u32> {
+/// The refusals, and else what the published `ApeTag` does; an area with flags is read by `flags`.
+pub fn published(area: &[u8], count: usize, op: &Op) -> Result<Answer, u32> {
+    if flags::in_area(area, count) {
+        return flags::answer(area, count, op);
+    }
     if !is_area(area, count) {
         return Err(12);
     }
@@ -395,7 +402,7 @@ fn published(area: &[u8], count: usize, op: &Op) -> Result<Answer, u32> {
 }
 
 /// The library's answer; a call that writes is tried with ample room, exact room, and one byte less.
-fn ours(area: &[u8], count: usize, op: &Op) -> Result<Answer, u32> {
+pub fn ours(area: &[u8], count: usize, op: &Op) -> Result<Answer, u32> {
     let items = Cell::new(0);
     let grown = match op {
         Op::Set(key, value) => key.len() + value.len(),
@@ -457,7 +464,7 @@ fn each(c: &mut Compare, mut area: Vec<u8>, mut count: usize, ops: &[Op]) -> (Ve
 }
 
 /// Keys that meet each other in another case, keys of mp3gain, keys at the ends of the rule, and keys that it refuses.
-fn some_key(rng: &mut Rng) -> Vec<u8> {
+pub fn some_key(rng: &mut Rng) -> Vec<u8> {
     let mut key = match rng.below(10) {
         0 | 1 => MP3GAIN_VALUE_KEYS[rng.below(8)].as_bytes().to_vec(),
         2 => [&b"ID3"[..], b"TAG", b"OggS", b"MP+", b"TAGS", b"ID3v1", b"OggT", b"MP"][rng.below(8)].to_vec(),
@@ -483,7 +490,7 @@ fn some_key(rng: &mut Rng) -> Vec<u8> {
 }
 
 /// Empty values, values with zero bytes, numbers as mp3gain writes them, and text; now and then not UTF-8.
-fn some_value(rng: &mut Rng) -> Vec<u8> {
+pub fn some_value(rng: &mut Rng) -> Vec<u8> {
     const NUMBERS: [&str; 14] = [
         "+003,+003,N",
         "-012,+007,W",
@@ -539,7 +546,7 @@ fn some_area(rng: &mut Rng) -> (Vec<u8>, usize) {
     (area, n)
 }
 
-fn some_op(rng: &mut Rng) -> Op {
+pub fn some_op(rng: &mut Rng) -> Op {
     match rng.below(16) {
         0..=2 => Op::Get(some_key(rng)),
         3..=7 => Op::Set(some_key(rng), some_value(rng)),
@@ -583,7 +590,7 @@ fn some_gain_area(rng: &mut Rng) -> (Vec<u8>, usize) {
 }
 
 /// One call of each kind, with a key that is there and one that is not.
-fn each_op() -> Vec<Op> {
+pub fn each_op() -> Vec<Op> {
     let bytes = |text: &str| text.as_bytes().to_vec();
     vec![
         Op::Get(bytes("aB")),
@@ -617,28 +624,28 @@ fn small_areas() -> Vec<(Vec<u8>, usize)> {
     tags.iter().map(|tag| (area_of(tag), tag.len())).collect()
 }
 
-/// The item at a place, by document 01's rule for an area.
-fn item_at(area: &[u8], at: usize) -> Result<Option<[usize; 4]>, u32> {
+/// The item at a place, by document 01's rule for an area, with the flags of document 02's request 13.
+fn item_at(area: &[u8], at: usize) -> Result<Option<(u32, [usize; 4])>, u32> {
     let Some(rest) = area.get(at..).filter(|rest| !rest.is_empty()) else { return Ok(None) };
     let number = |i: usize| rest.get(i..i + 4).map(|b| u32::from_le_bytes(b.try_into().unwrap()));
     let read = || {
         let (size, flags) = (number(0)? as usize, number(4)?);
         let key_end = at + 8 + rest[8..].iter().position(|&b| b == 0)?;
         let end = key_end + 1 + size;
-        (flags == 0 && end <= area.len()).then_some([at + 8, key_end, key_end + 1, end])
+        (end <= area.len()).then_some((flags, [at + 8, key_end, key_end + 1, end]))
     };
     read().map(Some).ok_or(12)
 }
 
 /// The items of an area one after another, and what stands at a place between.
-fn walk(c: &mut Compare, area: &[u8]) {
+pub fn walk(c: &mut Compare, area: &[u8]) {
     let mut at = 0;
     loop {
         c.bytes("item_at", area, |a| item_at(a, at), |a| library::item_at(a, at));
         let between = c.rng.below(area.len() + 2);
         c.bytes("item_at", area, |a| item_at(a, between), |a| library::item_at(a, between));
         match item_at(area, at) {
-            Ok(Some([.., end])) => at = end,
+            Ok(Some((_, [.., end]))) => at = end,
             _ => return,
         }
     }
@@ -962,6 +969,9 @@ fn record(r: &mut Record) {
         let op = Op::SetReplaygain(some_gains(&mut r.rng));
         line(&area, count, &op, r);
     }
+    for (area, count) in flags::small_areas() {
+        each_op().iter().for_each(|op| line(&area, count, op, r));
+    }
 }
 
 /// The edits by fixed keys: what each is of a published tag, and the library's call.
@@ -987,7 +997,7 @@ fn texts_of(tag: &ApeTag) -> usize {
 /// The same of an area, from item to item.
 fn texts_in(area: &[u8]) -> usize {
     let (mut sum, mut at) = (0, 0);
-    while let Ok(Some([a, b, c, d])) = library::item_at(area, at) {
+    while let Ok(Some((_, [a, b, c, d]))) = library::item_at(area, at) {
         sum += black_box(b - a + d - c);
         at = d;
     }

@@ -5,6 +5,7 @@
 
 use super::ape::{area_of, headed_files, item, random_file, tag_of};
 use super::edit::{around, finish, gate, in_domain, in_rooms, moved, some_items, Levelled, ITEMS, LIMIT};
+use super::flags;
 use super::shift::{flag, full_tag, shifted, some_tag};
 use super::values::{any_i32, is_peak_key, nearly, turn, ENDS, FLAGS, MINMAX, NUMBERS, TRACK_GAIN};
 use crate::ape::{accumulate_undo, format_undo_value, parse_undo_wrap, reach, read_ape_tag, UNDONE_KEYS};
@@ -72,6 +73,9 @@ pub fn by(left: i32, right: i32, wrap: bool) -> Level {
 
 /// Document 01's level; none outside the compared domain.
 pub fn published(file: &[u8], left: &[u8], right: &[u8], by: Level) -> Option<Result<Levelled, u32>> {
+    if flags::in_file(file) {
+        return Some(flags::level(file, left, right, by));
+    }
     if file.len() > LIMIT {
         return Some(Err(1));
     }
@@ -366,6 +370,9 @@ pub fn record(r: &mut Record) {
         let (left, right) = (some_gains(&mut r.rng, 6), some_gains(&mut r.rng, 3));
         let call = some_level(&mut r.rng, &file);
         line(r, &file, &left, &right, call, 4096);
+    }
+    for file in &flags::small_files()[..3] {
+        line(r, file, left, right, by(5, 5, true), 4096);
     }
 }
 

@@ -1,7 +1,7 @@
 //! Crate `listing`: the text that lists the tag of a file, beside one made from what the published reader gives.
 
 use super::ape::{block, item, random_file, tag_of};
-use super::Case;
+use super::{flags, Case};
 use crate::ape::{reach, read_ape_tag, ApeTag};
 use crate::tools::{hex, Bench, Compare, Record, Rng};
 
@@ -26,7 +26,7 @@ const FILL: u8 = 0xC3;
 const LIMIT: usize = 16_384;
 
 /// The library's listing. Panics where it changed a byte behind its text.
-fn ours(file: &[u8]) -> Vec<u8> {
+pub fn ours(file: &[u8]) -> Vec<u8> {
     static FILLED: [u8; library::ROOM] = [FILL; library::ROOM];
     let mut text = FILLED;
     let n = library::list_tag(file, &mut text);
@@ -46,8 +46,11 @@ fn print(text: &mut String, part: &str, key: bool) {
     }
 }
 
-/// Document 01's listing of what the published reader gives.
-fn published(file: &[u8]) -> Vec<u8> {
+/// Document 01's listing of what the published reader gives; a tag with flags is listed by `flags`.
+pub fn published(file: &[u8]) -> Vec<u8> {
+    if flags::in_file(file) {
+        return flags::list(file);
+    }
     if file.len() > LIMIT {
         return b"refused=1\n".to_vec();
     }
@@ -183,6 +186,7 @@ fn record(r: &mut Record) {
     }
     files.extend((0..100).map(|_| random_file(&mut r.rng)));
     files.extend((0..100).map(|_| random_text(&mut r.rng)));
+    files.extend(flags::each_type());
     for file in &files {
         r.line(&[hex(file), hex(&published(file))]);
     }

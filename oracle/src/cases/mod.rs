@@ -4,6 +4,7 @@ use crate::tools::{Bench, Compare, Record};
 
 mod ape;
 mod edit;
+mod flags;
 mod frame;
 mod items;
 mod level;
@@ -21,5 +22,14 @@ pub struct Case {
     pub bench: fn(&mut Bench),
 }
 
-pub const ALL: &[Case] =
-    &[frame::CASE, ape::CASE, items::CASE, utf8::CASE, values::CASE, edit::CASE, reversal::CASE, listing::CASE];
+pub const ALL: &[Case] = &[
+    frame::CASE,
+    ape::CASE,
+    items::CASE,
+    utf8::CASE,
+    values::CASE,
+    edit::CASE,
+    reversal::CASE,
+    listing::CASE,
+    flags::CASE,
+];

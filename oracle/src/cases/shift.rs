@@ -5,6 +5,7 @@
 //! built: there the exact sum decides. A step outside -255..255 is refused, which the Rust does not do.
 
 use super::ape::{area_of, is_area, item, tag_of, written};
+use super::flags;
 use super::items::{are_utf8, parts};
 use super::values::{
     any_i32, gain_text, is_gain, is_gain_key, is_i32, is_peak_key, is_range_domain, is_range_key, keys, nearly,
@@ -53,7 +54,7 @@ mod library {
 }
 
 /// The count of the new items and their area, or the refusal.
-type Shifted = Result<(usize, Vec<u8>), u32>;
+pub type Shifted = Result<(usize, Vec<u8>), u32>;
 
 /// The tag that the published call leaves by a step in -255..255; none outside the domain.
 pub fn shifted(tag: &ApeTag, steps: i32, wrap: bool) -> Option<ApeTag> {
@@ -81,12 +82,15 @@ pub fn shifted(tag: &ApeTag, steps: i32, wrap: bool) -> Option<ApeTag> {
 }
 
 /// The published answer; none outside the domain.
-fn published(area: &[u8], count: usize, steps: i32, wrap: bool) -> Option<Shifted> {
+pub fn published(area: &[u8], count: usize, steps: i32, wrap: bool) -> Option<Shifted> {
     if !is_area(area, count) {
         return Some(Err(12));
     }
     if !(-255..=255).contains(&steps) {
         return Some(Err(2));
+    }
+    if flags::in_area(area, count) {
+        return Some(flags::shift_area(area, count, steps, wrap));
     }
     let parts = parts(area, count);
     are_utf8(&parts).then_some(())?;
@@ -96,7 +100,7 @@ fn published(area: &[u8], count: usize, steps: i32, wrap: bool) -> Option<Shifte
 }
 
 /// The library's answer: with ample room, exact room, one byte less and no room at all.
-fn ours(area: &[u8], count: usize, steps: i32, wrap: bool) -> Shifted {
+pub fn ours(area: &[u8], count: usize, steps: i32, wrap: bool) -> Shifted {
     let items = Cell::new(0);
     let call = |out: &mut [u8]| {
         library::shift_stored_gain(area, count, steps, wrap, out).map(|(n, length)| {
@@ -324,6 +328,9 @@ pub fn record(r: &mut Record) {
             }
         };
         line(r, &area_of(&tag), tag.len(), turn(i * 37), i % 2 == 0, 4096);
+    }
+    for (area, count) in flags::small_areas() {
+        line(r, &area, count, 5, false, 4096);
     }
 }
 

@@ -179,7 +179,7 @@ pub fn is_range_domain(text: &[u8]) -> bool {
 }
 
 /// A whole number with spaces about it, exactly.
-fn whole(field: &[u8]) -> Option<i128> {
+pub fn whole(field: &[u8]) -> Option<i128> {
     let space = |b: &u8| matches!(b, 9..=13 | 32);
     let from = field.iter().position(|b| !space(b))?;
     let to = field.iter().rposition(|b| !space(b))? + 1;

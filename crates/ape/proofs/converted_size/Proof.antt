@@ -4,7 +4,7 @@ use borrow.Author.Needs.{needs}
 use Rattle.lossy.specs.Lossy.{lossy}
 use Rattle.items.specs.Items.{itemBytes}
 use Rattle.items.proofs.Area.{length-item}
-use Rattle.ape.specs.Tag.{converted}
+use Rattle.ape.specs.Tag.{readValue, converted}
 use Rattle.ape.proofs.Sizing.{fits-told, none-told, tell-fits, tell-none}
 use Rattle.ape.proofs.converted_size.Statement.{statement}
 use Rattle.ape.proofs.converted_size.Tie as tie
@@ -13,11 +13,11 @@ returns : tie.Need-returns
 returns c =
     let p = c .before .before in
     let g = p .before .before .before .args in
-    let t = converted (g .key .now) (g .value .now) in
+    let t = converted (g .flags) (g .key .now) (g .value .now) in
     tell-none (itemBytes t) (g .room) (omega (arith, length-item t, none-told (lossy (g .key .now)) (g .room) (p .lossy-within .ensures) (c .enum-told .given .1)))
 
-sub-lossy-within : tie.Need-sub-lossy-within
-sub-lossy-within c =
+sub-value-size : tie.Need-sub-value-size
+sub-value-size c =
     let p = c .before .before .before in
     let g = p .before .before .before .args in
     omega (arith, fits-told (lossy (g .key .now)) (g .room) (p .lossy-within .ensures) (c .before .k .given .1))
@@ -28,9 +28,9 @@ returns-2 c =
     let k = q .before .before in
     let p = k .before .before in
     let g = p .before .before .before .args in
-    let t = converted (g .key .now) (g .value .now) in
+    let t = converted (g .flags) (g .key .now) (g .value .now) in
     let a = fits-told (lossy (g .key .now)) (g .room) (p .lossy-within .ensures) (k .k .given .1) in
-    tell-none (itemBytes t) (g .room) (omega (arith, length-item t, none-told (lossy (g .value .now)) _ (q .lossy-within2 .ensures) (c .enum-told2 .given .1)))
+    tell-none (itemBytes t) (g .room) (omega (arith, length-item t, none-told (readValue (g .flags) (g .value .now)) _ (q .value-size .ensures) (c .enum-told2 .given .1)))
 
 add-n : tie.Need-add-n
 add-n c =
@@ -39,7 +39,7 @@ add-n c =
     let p = k .before .before in
     let g = p .before .before .before .args in
     let a = fits-told (lossy (g .key .now)) (g .room) (p .lossy-within .ensures) (k .k .given .1) in
-    let b = fits-told (lossy (g .value .now)) _ (q .lossy-within2 .ensures) (c .before .v .given .1) in
+    let b = fits-told (readValue (g .flags) (g .value .now)) _ (q .value-size .ensures) (c .before .v .given .1) in
     omega (arith, p .before .before .before .fits .room)
 
 sub-if1 : tie.Need-sub-if1
@@ -49,7 +49,7 @@ sub-if1 c =
     let p = k .before .before in
     let g = p .before .before .before .args in
     let a = fits-told (lossy (g .key .now)) (g .room) (p .lossy-within .ensures) (k .k .given .1) in
-    let b = fits-told (lossy (g .value .now)) _ (q .lossy-within2 .ensures) (c .before .v .given .1) in
+    let b = fits-told (readValue (g .flags) (g .value .now)) _ (q .value-size .ensures) (c .before .v .given .1) in
     omega arith
 
 returns-3 : tie.Need-returns-3
@@ -58,9 +58,9 @@ returns-3 c =
     let k = q .before .before in
     let p = k .before .before in
     let g = p .before .before .before .args in
-    let t = converted (g .key .now) (g .value .now) in
+    let t = converted (g .flags) (g .key .now) (g .value .now) in
     let a = fits-told (lossy (g .key .now)) (g .room) (p .lossy-within .ensures) (k .k .given .1) in
-    let b = fits-told (lossy (g .value .now)) _ (q .lossy-within2 .ensures) (c .before .before .v .given .1) in
+    let b = fits-told (readValue (g .flags) (g .value .now)) _ (q .value-size .ensures) (c .before .before .v .given .1) in
     tell-none (itemBytes t) (g .room) (omega (arith, length-item t))
 
 returns-4 : tie.Need-returns-4
@@ -69,9 +69,9 @@ returns-4 c =
     let k = q .before .before in
     let p = k .before .before in
     let g = p .before .before .before .args in
-    let t = converted (g .key .now) (g .value .now) in
+    let t = converted (g .flags) (g .key .now) (g .value .now) in
     let a = fits-told (lossy (g .key .now)) (g .room) (p .lossy-within .ensures) (k .k .given .1) in
-    let b = fits-told (lossy (g .value .now)) _ (q .lossy-within2 .ensures) (c .before .before .v .given .1) in
+    let b = fits-told (readValue (g .flags) (g .value .now)) _ (q .value-size .ensures) (c .before .before .v .given .1) in
     tell-fits (itemBytes t) (g .room) _ (omega (arith, length-item t)) (omega (arith, length-item t))
 
 pub converted-size-spec : {M : Type 1} → statement M
@@ -82,7 +82,7 @@ converted-size-spec =
     (λ c. search needs)
     (λ c. search needs)
     returns
-    sub-lossy-within
+    sub-value-size
     (λ c κs. search needs)
     (λ c. search needs)
     (λ c. search needs)

@@ -38,20 +38,20 @@ returns c =
     let p = c .before in
     let l = c .before .before .before in
     let g = l .before .before .args in
-    let (n, s) = whole l (ended (g .items .now) (l .loop .at) (l .loop .left) (p .step-any .result) (p .step-any .ensures) (c .match .keys2)) in
+    let (n, s) = whole l (ended (g .items .now) (l .loop .at) (l .loop .left) (p .step .result) (p .step .ensures) (c .match .keys2)) in
     let fits : length (areaBytes (readItems (g .count) (g .items .now))) ≤ g .room = omega arith in
     rw (le-leb _ _ fits, n, s)
 
 -- one turn, where the step found an item
 here : (c : tie.After-known-told Inv-loop μ-loop)
-    → Turn (c .before .before .before .before .before .before .before .args .items .now) (c .before .before .before .before .before .loop .at) (c .before .before .before .before .before .loop .left) (c .before .s .given .0 .1 .0) (c .before .s .given .0 .1 .1 .0) (c .before .s .given .0 .1 .1 .1 .0) (c .before .s .given .0 .1 .1 .1 .1 .0)
-here c = turn (c .before .before .before .before .before .before .before .args .items .now) (c .before .before .before .before .before .loop .at) (c .before .before .before .before .before .loop .left) (c .before .before .before .before .loop-test .taken) (sym (c .before .s .given .1) ∙ c .before .before .before .step-any .ensures)
+    → Turn (c .before .before .before .before .before .before .before .args .items .now) (c .before .before .before .before .before .loop .at) (c .before .before .before .before .before .loop .left) (c .before .s .given .0 .0) (c .before .s .given .0 .1 .0) (c .before .s .given .0 .1 .1 .0) (c .before .s .given .0 .1 .1 .1 .0) (c .before .s .given .0 .1 .1 .1 .1 .0)
+here c = turn (c .before .before .before .before .before .before .before .args .items .now) (c .before .before .before .before .before .loop .at) (c .before .before .before .before .before .loop .left) (c .before .before .before .before .loop-test .taken) (sym (c .before .s .given .1) ∙ c .before .before .before .step .ensures)
 
 -- the item that it reads
 abbrev itemOf : tie.After-known-told Inv-loop μ-loop → Item
 itemOf c =
     let g = c .before .before .before .before .before .before .before .args in
-    converted (part (c .before .s .given .0 .1 .0) (c .before .s .given .0 .1 .1 .0) (g .items .now)) (part (c .before .s .given .0 .1 .1 .1 .0) (c .before .s .given .0 .1 .1 .1 .1 .0) (g .items .now))
+    converted (c .before .s .given .0 .0) (part (c .before .s .given .0 .1 .0) (c .before .s .given .0 .1 .1 .0) (g .items .now)) (part (c .before .s .given .0 .1 .1 .1 .0) (c .before .s .given .0 .1 .1 .1 .1 .0) (g .items .now))
 
 -- what it adds
 grown : (c : tie.After-known-told Inv-loop μ-loop)

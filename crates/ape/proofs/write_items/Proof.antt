@@ -21,12 +21,12 @@ returns c =
     let p = c .before in
     let l = c .before .before .before in
     let g = l .before .before .before .args in
-    finished (l .loop .inv .2) (ended (g .items .now) (l .loop .at) (l .loop .left) (p .step-any .result) (p .step-any .ensures) (c .match .keys2))
+    finished (l .loop .inv .2) (ended (g .items .now) (l .loop .at) (l .loop .left) (p .step .result) (p .step .ensures) (c .match .keys2))
 
 -- one turn, where the step found an item
 here : (c : tie.After-known-told Inv-loop μ-loop)
-    → Turn (c .before .before .before .before .before .before .before .before .args .items .now) (c .before .before .before .before .before .loop .at) (c .before .before .before .before .before .loop .left) (c .before .s .given .0 .1 .0) (c .before .s .given .0 .1 .1 .0) (c .before .s .given .0 .1 .1 .1 .0) (c .before .s .given .0 .1 .1 .1 .1 .0)
-here c = turn (c .before .before .before .before .before .before .before .before .args .items .now) (c .before .before .before .before .before .loop .at) (c .before .before .before .before .before .loop .left) (c .before .before .before .before .loop-test .taken) (sym (c .before .s .given .1) ∙ c .before .before .before .step-any .ensures)
+    → Turn (c .before .before .before .before .before .before .before .before .args .items .now) (c .before .before .before .before .before .loop .at) (c .before .before .before .before .before .loop .left) (c .before .s .given .0 .0) (c .before .s .given .0 .1 .0) (c .before .s .given .0 .1 .1 .0) (c .before .s .given .0 .1 .1 .1 .0) (c .before .s .given .0 .1 .1 .1 .1 .0)
+here c = turn (c .before .before .before .before .before .before .before .before .args .items .now) (c .before .before .before .before .before .loop .at) (c .before .before .before .before .before .loop .left) (c .before .before .before .before .loop-test .taken) (sym (c .before .s .given .1) ∙ c .before .before .before .step .ensures)
 
 put-item-requires : tie.Need-put-item-requires Inv-loop μ-loop
 put-item-requires c κs =

@@ -5,8 +5,8 @@ use native.Mathlib.Omega.{arith}
 use borrow.Author.Needs.{needs}
 use borrow.Author.Tests.{not-true, not-false}
 use lib.ListN.{length}
-use Rattle.items.specs.Items.{plainHead, without}
-use Rattle.items.proofs.Walk.{zero-flags, Taken, taken, stopped}
+use Rattle.items.specs.Items.{without}
+use Rattle.items.proofs.Walk.{Taken, taken, stopped}
 use Rattle.area_drop.specs.Drops.{dropped, measuredOf}
 use Rattle.area_drop.proofs.Dropping.{measured, measure-begin, measure-long, measure-stop, measure-drop, measure-keep, measure-end, measure-behind}
 use Rattle.area_drop.proofs.measure_without.Statement.{statement}
@@ -33,16 +33,16 @@ returns-2 : tie.Need-returns-2 Inv-loop μ-loop
 returns-2 c =
     let l = c .before .before .before in
     let g = l .before .before .before .before .args in
-    let e = stopped zero-flags (g .area .now) (l .loop .at) (c .before .step .result) (c .before .step .ensures) (c .match .keys2) in
+    let e = stopped (g .area .now) (l .loop .at) (c .before .step .result) (c .before .step .ensures) (c .match .keys2) in
     sym (l .loop .inv .3 ∙ measure-stop (dropped (g .what) (g .key .now)) (g .area .now) (l .loop .at) (l .loop .left) (l .loop .n) (l .loop .size) (omega arith) e)
 
 -- the turn's item
 here : (c : tie.After-known-told Inv-loop μ-loop) → let l = c .before .before .before .before .before in let v = c .before .s .given .0 in
-    Taken plainHead (l .before .before .before .before .args .area .now) (l .loop .at) (v .0) (v .1 .0) (v .1 .1 .0) (v .1 .1 .1 .0) (v .1 .1 .1 .1 .0)
+    Taken (l .before .before .before .before .args .area .now) (l .loop .at) (v .0) (v .1 .0) (v .1 .1 .0) (v .1 .1 .1 .0) (v .1 .1 .1 .1 .0)
 here c =
     let p = c .before .before .before in
     let l = p .before .before in
-    taken zero-flags (l .before .before .before .before .args .area .now) (l .loop .at) _ _ _ _ _ (sym (c .before .s .given .1) ∙ p .step .ensures)
+    taken (l .before .before .before .before .args .area .now) (l .loop .at) _ _ _ _ _ (sym (c .before .s .given .1) ∙ p .step .ensures)
 
 add-n : tie.Need-add-n Inv-loop μ-loop
 add-n c =

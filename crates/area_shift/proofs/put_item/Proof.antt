@@ -3,17 +3,16 @@ use Prim.Native.Nat.{_+_, _-_, _≤_}
 use native.Mathlib.Omega.{arith}
 use borrow.Author.Needs.{needs}
 use borrow.Author.Tests.{not-true, not-false}
-use lib.ListN.{length}
-use Rattle.lists.specs.Le.{u32le}
+use lib.ListN.{length, take}
 use Rattle.lists.specs.Write.{part}
 use Rattle.lists.proofs.Places.{length-part}
-use Rattle.lists.proofs.Wrote.{start, next, done}
 use Rattle.decimal.specs.declared.Text.{Text}
-use Rattle.decimal.proofs.Texts.{lent-part}
+use Rattle.decimal.proofs.Texts.{Moved, lent-part}
+use Rattle.values.specs.Stored.{shiftStored}
 use Rattle.area_shift.specs.Shift.{shiftedBytes}
 use Rattle.area_shift.proofs.put_item.Statement.{statement}
 use Rattle.area_shift.proofs.put_item.Tie as tie
-use Rattle.area_shift.proofs.Shifting.{bytes-moved, stays-bytes, moved-text, moved-size, kept-room, room-size, room-middle, room-text}
+use Rattle.area_shift.proofs.Shifting.{bytes-moved, stays-bytes, moved-text, moved-size, kept-room, moved-room}
 
 -- it stays as found
 stays : (c : tie.After-put-part-arg) → let g = c .before .before .before .before .before .before .before .before .args in
@@ -23,40 +22,6 @@ stays c =
     let g = v .before .before .before .before .before .args in
     let x = v .shift-stored-value .result in
     stays-bytes (g .steps .0) (g .area .now) (g .at) (g .stop) (g .end) x (v .shift-stored-value .ensures) (not-true (x .moved) (c .before .if1 .taken))
-
--- it has a new text: how long it then is
-sized : (c : tie.After-put-u32-le-arg) → let v = c .before .before .before .before .before in let g = v .before .before .before .before .before .args in
-    let t = v .shift-stored-value .result .text in
-    (length (shiftedBytes (g .steps .0) (g .area .now) (g .at) (g .stop) (g .end)) ≡ g .stop + 1 - g .at + t .len) × (t .len ≤ 21) × (t .len ≤ length (t .bytes))
-sized c =
-    let v = c .before .before .before .before .before in
-    let b = v .before .before .before .before .before in
-    let g = b .args in
-    let x = v .shift-stored-value .result in
-    moved-size (g .steps .0) (g .area .now) (g .at) (g .stop) (g .end) x (v .shift-stored-value .ensures) (not-false (x .moved) (c .before .before .before .if1 .left))
-    (b .pre .0) (b .pre .1) (b .pre .2)
-
-returns-2 : tie.Need-returns-2
-returns-2 c =
-    let p3 = c .before .before in
-    let p2 = p3 .before .before .before .before .before in
-    let p1 = p2 .before .before .before .before in
-    let k = p1 .before in
-    let v = k .before .before .before .before .before in
-    let b = v .before .before .before .before .before in
-    let g = b .args in
-    let s = g .area .now in
-    let x = v .shift-stored-value .result in
-    let t = x .text in
-    let m = moved-text (g .steps .0) s (g .at) (g .stop) (g .end) x (v .shift-stored-value .ensures) (not-false (x .moved) (k .before .before .before .if1 .left)) in
-    let n : t .len ≡ length (m .w) = ap (λ (t : Text). t .len) (m .text) in
-    let e2 = p2 .put-part2 .ensures in
-    let e3 = p3 .put-part3 .ensures in
-    let l = lent-part t (m .w) (m .text) in
-    let w1 = next (start (g .out .now) (g .o) (omega (arith, b .pre))) (u32le (length (m .w))) (rw n at (p1 .put-u32-le .ensures)) in
-    let w2 = next w1 (part (g .at + 4) (g .stop + 1) s) (e2 .0, e2 .1) in
-    let w3 = next w2 (m .w) (rw l at (e3 .0), rw l at (e3 .1)) in
-    rw (bytes-moved (g .steps .0) s (g .at) (g .stop) (g .end) (m .w) (m .is)) (done w3)
 
 put-part-requires : tie.Need-put-part-requires
 put-part-requires c κs =
@@ -69,33 +34,52 @@ returns c =
     let p = c .before .before in
     rw (stays (p .before)) (p .put-part .ensures .0, p .put-part .ensures .1)
 
-put-u32-le-requires : tie.Need-put-u32-le-requires
-put-u32-le-requires c κs =
-    let v = c .before .before .before .before .before in
-    let b = v .before .before .before .before .before in
-    let g = b .args in
-    room-size (g .at) (g .stop) (g .end) (length (g .area .now)) (g .o) (length (g .out .now)) (v .shift-stored-value .result .text .len) (b .pre .0) (b .pre .1) (b .pre .2) (sized c .0) (b .pre .3)
+-- it has a new text
+moved : (c : tie.Else1) → let v = c .before .before in let g = v .before .before .before .before .before .args in
+    Moved (shiftStored (part (g .at + 8) (g .stop) (g .area .now)) (part (g .stop + 1) (g .end) (g .area .now)) (g .steps .0)) (v .shift-stored-value .result)
+moved c =
+    let v = c .before .before in
+    let g = v .before .before .before .before .before .args in
+    let x = v .shift-stored-value .result in
+    moved-text (g .steps .0) (g .area .now) (g .at) (g .stop) (g .end) x (v .shift-stored-value .ensures) (not-false (x .moved) (c .if1 .left))
 
-put-part-requires-2 : tie.Need-put-part-requires-2
-put-part-requires-2 c κs =
-    let p1 = c .before .before .before in
-    let v = p1 .before .before .before .before .before .before in
+-- how long it then is
+sized : (c : tie.Else1) → let v = c .before .before in let g = v .before .before .before .before .before .args in
+    let t = v .shift-stored-value .result .text in
+    (length (shiftedBytes (g .steps .0) (g .area .now) (g .at) (g .stop) (g .end)) ≡ g .stop + 1 - g .at + t .len) × (t .len ≤ 21) × (t .len ≤ length (t .bytes))
+sized c =
+    let v = c .before .before in
     let b = v .before .before .before .before .before in
     let g = b .args in
-    room-middle (g .at) (g .stop) (g .end) (length (g .area .now)) (g .o) (length (g .out .now)) (v .shift-stored-value .result .text .len) (b .pre .0) (b .pre .1) (b .pre .2) (sized (p1 .before) .0) (b .pre .3) (p1 .put-u32-le .ensures .0) (p1 .put-u32-le .kept .0)
+    let x = v .shift-stored-value .result in
+    moved-size (g .steps .0) (g .area .now) (g .at) (g .stop) (g .end) x (v .shift-stored-value .ensures) (not-false (x .moved) (c .if1 .left))
+    (b .pre .0) (b .pre .1) (b .pre .2)
 
-put-part-requires-3 : tie.Need-put-part-requires-3
-put-part-requires-3 c κs =
-    let p2 = c .before .before .before .before in
-    let p1 = p2 .before .before .before .before in
-    let v = p1 .before .before .before .before .before .before in
-    let b = v .before .before .before .before .before in
+-- the text as it is lent
+lent : (c : tie.Else1) → let t = c .before .before .shift-stored-value .result .text in
+    (take (t .len - 0) (t .bytes) ≡ moved c .w) × (t .len ≡ length (moved c .w))
+lent c =
+    let t = c .before .before .shift-stored-value .result .text in
+    (lent-part t (moved c .w) (moved c .text), ap (λ (t : Text). t .len) (moved c .text))
+
+put-changed-requires : tie.Need-put-changed-requires
+put-changed-requires c κs =
+    let e = c .before .before .before .before .before in
+    let b = e .before .before .before .before .before .before .before in
     let g = b .args in
-    let z = sized (p1 .before) in (
-      omega arith,
-      z .2,
-      room-text (g .at) (g .stop) (g .end) (length (g .area .now)) (g .o) (length (g .out .now)) (v .shift-stored-value .result .text .len) (b .pre .0) (b .pre .1) (b .pre .2) (z .0) (b .pre .3) (p1 .put-u32-le .ensures .0) (p1 .put-u32-le .kept .0) (p2 .put-part2 .ensures .2) (p2 .put-part2 .kept .0),
-    )
+    let (l, n) = lent e in
+    let z = sized e in
+    rw l (moved-room (g .at) (g .stop) (g .end) (length (g .area .now)) (g .o) (length (g .out .now)) (length (moved e .w)) (b .pre .0) (b .pre .1) (b .pre .2) (omega (arith, z, n)) (b .pre .3) (omega (arith, z, n)))
+
+returns-2 : tie.Need-returns-2
+returns-2 c =
+    let p = c .before .before in
+    let e = p .before .before .before .before .before .before in
+    let g = e .before .before .before .before .before .before .before .args in
+    let m = moved e in
+    let (l, n) = lent e in
+    let y = p .put-changed .ensures in
+    rw (bytes-moved (g .steps .0) (g .area .now) (g .at) (g .stop) (g .end) (m .w) (m .is)) (rw l at (y .0), rw l at (y .1))
 
 pub put-item-spec : {M : Type 1} → statement M
 put-item-spec =
@@ -113,11 +97,9 @@ put-item-spec =
     put-part-requires
     (λ c. c .before .before .put-part .kept .0)
     returns
-    (λ c. omega (arith, sized c))
-    put-u32-le-requires
     (λ c. search needs)
-    put-part-requires-2
     (λ c. search needs)
-    put-part-requires-3
-    (λ c. let p3 = c .before .before in let p2 = p3 .before .before .before .before .before in p3 .put-part3 .kept .0 ∙ p2 .put-part2 .kept .0 ∙ p2 .before .before .before .before .put-u32-le .kept .0)
+    (λ c. omega (arith, sized (c .before .before .before .before)))
+    put-changed-requires
+    (λ c. c .before .before .put-changed .kept .0)
     returns-2)

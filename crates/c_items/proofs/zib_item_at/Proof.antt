@@ -9,13 +9,13 @@ stepped : (c : tie.After-step) → let g = c .before .before .args in c .step .r
 stepped c = c .step .ensures
 
 returns : tie.Need-returns
-returns c = rw (← stepped (c .before .before .before), c .before .s .given .1) (refl, refl, refl, refl, refl, refl)
+returns c = rw (← stepped (c .before .before .before), c .before .s .given .1) (refl, refl, refl, refl, refl, refl, refl)
 
 returns-2 : tie.Need-returns-2
-returns-2 c = rw (← stepped (c .before .before), c .enum-told .given .1) (refl, refl, refl, refl, refl, refl)
+returns-2 c = rw (← stepped (c .before .before), c .enum-told .given .1) (refl, refl, refl, refl, refl, refl, refl)
 
 returns-3 : tie.Need-returns-3
-returns-3 c = rw (← stepped (c .before .before .before), c .before .enum-told2 .given .1) (c .number .ensures, refl, refl, refl, refl, refl)
+returns-3 c = rw (← stepped (c .before .before .before), c .before .enum-told2 .given .1) (c .number .ensures, refl, refl, refl, refl, refl, refl)
 
 pub zib-item-at-spec : {M : Type 1} → statement M
 zib-item-at-spec =

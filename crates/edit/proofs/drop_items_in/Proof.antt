@@ -10,11 +10,12 @@ use lib.ListN.{length, take}
 use Rattle.lists.specs.Write.{part}
 use Rattle.lists.proofs.Places.{length-part}
 use Rattle.items.specs.Items.{Item, areaBytes, parse, itemsIn, without}
-use Rattle.items.proofs.ItemLaws.{area-without, sane-without, parse-sane}
+use Rattle.items.proofs.ItemLaws.{area-without, sane-without}
 use Rattle.area_drop.specs.Drops.{dropped}
 use Rattle.area_drop.proofs.Plans.{sized, unsized}
 use Rattle.calls.specs.Gate.{itemsOf}
 use Rattle.items.proofs.Area.{area-length, read-back, back-good}
+use Rattle.gate.proofs.Gates.{passed-sane}
 use Rattle.edit.proofs.drop_items_in.Statement.{statement}
 use Rattle.edit.proofs.drop_items_in.Tie as tie
 
@@ -61,7 +62,7 @@ stands c =
     let b = c .before .before .before .before .before .before .before .before .before .before .before in
     let w = c .write-without .ensures in
     read-back (new b) (array c) _ (c .write-without .result) (c .before .before .before .m .given .0 .0) (w .1) (w .0) (few (c .before .before))
-    (sane-without (dropped (b .args .what) (b .args .key .now)) (itemsIn (b .args .count) (area b)) (parse-sane (b .args .count) (area b)))
+    (sane-without (dropped (b .args .what) (b .args .key .now)) (itemsIn (b .args .count) (area b)) (passed-sane (b .pre .0)))
     (omega (arith, long b, b .pre .0 .short))
 
 finish-requires : tie.Need-finish-requires

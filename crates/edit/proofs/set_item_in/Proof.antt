@@ -10,9 +10,10 @@ use Rattle.lists.specs.Write.{part}
 use Rattle.lists.proofs.Places.{length-part}
 use Rattle.keys.proofs.Keys.{key-length}
 use Rattle.items.specs.Items.{Item, areaBytes, parse, itemsIn, setItem}
-use Rattle.items.proofs.ItemLaws.{area-set, sane-set, sane-key, parse-sane}
+use Rattle.items.proofs.ItemLaws.{area-set, sane-set, sane-key}
 use Rattle.calls.specs.Gate.{itemsOf}
 use Rattle.items.proofs.Area.{area-length, read-back, back-good}
+use Rattle.gate.proofs.Gates.{passed-sane}
 use Rattle.edit.proofs.set_item_in.Statement.{statement}
 use Rattle.edit.proofs.set_item_in.Tie as tie
 
@@ -53,7 +54,7 @@ stands c =
     let g = b .args in
     let w = c .write-set .ensures in
     read-back (new b) (array c) _ (c .write-set .result .length) (c .write-set .result .count) (w .2) (w .1) (w .0)
-    (sane-set (g .key .now) (g .value .now) (itemsIn (g .count) (area b)) (sane-key (g .key .now) (b .pre .2)) (parse-sane (g .count) (area b)))
+    (sane-set (g .key .now) (g .value .now) (itemsIn (g .count) (area b)) (sane-key (g .key .now) (b .pre .2)) (passed-sane (b .pre .0)))
     (omega (arith, bounded b))
 
 finish-requires : tie.Need-finish-requires

@@ -7,11 +7,10 @@ use native.Mathlib.Omega.{arith}
 use borrow.Author.Needs.{needs}
 use borrow.Author.Tests.{not-true, not-false}
 use lib.ListN.{drop}
-use Rattle.utf8.specs.Utf8.{valid}
 use Rattle.items.specs.Items.{itemsIn}
-use Rattle.items.proofs.Loops.{Left, begin, Turn, turn, never, items-none}
-use Rattle.calls.specs.Gate.{allValid}
-use Rattle.gate.proofs.Clean.{valid-none, bad-key, bad-value, valid-more}
+use Rattle.items.proofs.Loops.{Left, begin, Turn, turn, turn-flags, never, items-none}
+use Rattle.calls.specs.Gate.{itemValid, allValid}
+use Rattle.gate.proofs.Clean.{by-parts, valid-none, bad-item, valid-more}
 use Rattle.gate.proofs.all_valid.Statement.{statement}
 use Rattle.gate.proofs.all_valid.Tie as tie
 
@@ -37,35 +36,28 @@ split : (c : tie.After-known-told Inv-loop μ-loop)
     allValid (itemsIn (g .count) (g .area .now)) ≡ allValid (here c .item ∷ itemsIn (c .before .before .before .before .before .loop .left - 1) (drop (c .before .s .given .0 .1 .1 .1 .1 .0) (g .area .now)))
 split c = c .before .before .before .before .before .loop .inv .1 ∙ ap allValid (here c .list)
 
-key : (c : tie.After-is-utf8-by Inv-loop μ-loop) → c .is-utf8-by .result ≡ valid (here (c .before .before) .item .key)
-key c = c .is-utf8-by .ensures ∙ ap valid (here (c .before .before) .key)
+flags : (c : tie.After-known-told Inv-loop μ-loop) → c .before .s .given .0 .0 ≡ here c .item .flags
+unfolding here
+flags c = turn-flags (c .before .before .before .before .before .loop .inv .0) (c .before .before .before .before .loop-test .taken) (sym (c .before .s .given .1) ∙ c .before .before .before .step .ensures)
 
-value : (c : tie.After-is-utf8-by2 Inv-loop μ-loop) → c .is-utf8-by2 .result ≡ valid (here (c .before .before .before .before .before) .item .value)
-value c = c .is-utf8-by2 .ensures ∙ ap valid (here (c .before .before .before .before .before) .value)
+-- the test is that of the item
+test : (c : tie.After-item-valid Inv-loop μ-loop) → c .item-valid .result ≡ itemValid (here (c .before .before .before) .item)
+test c = let k = c .before .before .before in c .item-valid .ensures ∙ by-parts (here k .item) (flags k) (here k .key) (here k .value)
 
 returns-2 : tie.Need-returns-2 Inv-loop μ-loop
 returns-2 c =
     let p = c .before in
-    let k = c .before .before .before in
-    sym (split k ∙ bad-key (here k .item) _ (sym (key p) ∙ not-true (p .is-utf8-by .result) (c .if1 .taken)))
-
-good : (c : tie.Else1 Inv-loop μ-loop) → valid (here (c .before .before .before) .item .key) ≡ true
-good c = sym (key (c .before)) ∙ not-false (c .before .is-utf8-by .result) (c .if1 .left)
-
-returns-3 : tie.Need-returns-3 Inv-loop μ-loop
-returns-3 c =
-    let p = c .before in
-    let k = c .before .before .before .before .before .before in
-    sym (split k ∙ bad-value (here k .item) _ (good (c .before .before .before)) (sym (value p) ∙ not-true (p .is-utf8-by2 .result) (c .if2 .taken)))
+    let k = p .before .before .before in
+    sym (split k ∙ bad-item (here k .item) _ (sym (test p) ∙ not-true (p .item-valid .result) (c .if1 .taken)))
 
 loop-again : tie.Need-loop-again Inv-loop μ-loop
 loop-again c =
     let p = c .before in
-    let k = c .before .before .before .before .before .before in
-    (here k .rest, split k ∙ valid-more (here k .item) _ (good (c .before .before .before)) (sym (value p) ∙ not-false (p .is-utf8-by2 .result) (c .if2 .left)))
+    let k = p .before .before .before in
+    (here k .rest, split k ∙ valid-more (here k .item) _ (sym (test p) ∙ not-false (p .item-valid .result) (c .if1 .left)))
 
-returns-4 : tie.Need-returns-4 Inv-loop μ-loop
-returns-4 c =
+returns-3 : tie.Need-returns-3 Inv-loop μ-loop
+returns-3 c =
     let l = c .before in
     let z : l .loop .left ≡ 0 = omega arith in
     sym (l .loop .inv .1 ∙ rw (z, items-none (drop (l .loop .at) (c .before .before .before .args .area .now))) valid-none)
@@ -83,14 +75,12 @@ all-valid-spec =
     (λ c. let t = here c in omega (arith, t .rest .within))
     (λ c. let t = here c in omega (arith, t .rest .within))
     (λ c. let t = here c in omega (arith, t .rest .within))
-    (λ c κs. c .before .before .before .before .before .before .before .before .pre .0)
+    (λ c. let t = here (c .before) in omega (arith, t .rest .within))
+    (λ c. let t = here (c .before) in omega (arith, t .rest .within))
+    (λ c. let t = here (c .before) in omega (arith, t .rest .within))
+    (λ c κs. c .before .before .before .before .before .before .before .before .before .pre .0)
     returns-2
-    (λ c. let t = here (c .before .before .before) in omega (arith, t .rest .within))
-    (λ c. let t = here (c .before .before .before) in omega (arith, t .rest .within))
-    (λ c. let t = here (c .before .before .before) in omega (arith, t .rest .within))
-    (λ c κs. c .before .before .before .before .before .before .before .before .before .before .before .pre .0)
-    returns-3
     (λ c. omega arith)
     (λ c. omega arith)
     loop-again
-    returns-4)
+    returns-3)

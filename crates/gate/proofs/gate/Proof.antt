@@ -17,7 +17,7 @@ use Rattle.ape.specs.Tag.{findFooter, versionAt, sizeAt, countAt, areaAt}
 use Rattle.ape.specs.declared.Footer.the-variants.{At}
 use Rattle.ape.proofs.Files.{footer-within, area-part}
 use Rattle.calls.specs.Gate.{isHeaded, allValid}
-use Rattle.gate.proofs.Gates.{start-size, start-before, gate-empty, other-version, no-footer-counted, no-start, many-items, many-bytes, no-header, bad-items, good-items}
+use Rattle.gate.proofs.Gates.{start-size, gate-empty, other-version, no-footer-counted, no-start, many-items, many-bytes, no-header, bad-items, good-items}
 use Rattle.gate.proofs.gate.Statement.{statement}
 use Rattle.gate.proofs.gate.Tie as tie
 
@@ -94,7 +94,7 @@ is-headed-requires c κs =
     let b = c .before .before .before in
     let e = b .before .before .before .before in
     let k = e .before .before .before .before in
-    (omega (arith, inside k), start-before _ _ _ (begun b) (counted e), begun b)
+    (omega (arith, inside k), omega (arith, start-size _ _ _ (begun b), counted e), begun b)
 
 returns-7 : tie.Need-returns-7
 returns-7 c =

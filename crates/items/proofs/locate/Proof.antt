@@ -5,9 +5,8 @@ use native.Mathlib.Omega.{arith}
 use borrow.Author.Needs.{needs}
 use borrow.Author.Tests.{not-true, not-false}
 use lib.ListN.{length}
-use Rattle.items.specs.Items.{plainHead}
 use Rattle.items.specs.Answers.{locateOf}
-use Rattle.items.proofs.Walk.{zero-flags, Taken, taken, stopped}
+use Rattle.items.proofs.Walk.{Taken, taken, stopped}
 use Rattle.items.proofs.Located.{locateFrom, locate-long, locate-stop, locate-miss, locate-hit, locate-none, locate-behind}
 use Rattle.items.proofs.locate.Statement.{statement}
 use Rattle.items.proofs.locate.Tie as tie
@@ -27,16 +26,16 @@ returns-2 : tie.Need-returns-2 Inv-loop μ-loop
 returns-2 c =
     let l = c .before .before .before in
     let g = l .before .before .before .before .args in
-    let e = stopped zero-flags (g .area .now) (l .loop .at) (c .before .step .result) (c .before .step .ensures) (c .match .keys2) in
+    let e = stopped (g .area .now) (l .loop .at) (c .before .step .result) (c .before .step .ensures) (c .match .keys2) in
     sym (l .loop .inv .1 ∙ locate-stop (g .area .now) (g .key .now) (l .loop .at) (l .loop .left) (omega arith) e)
 
 -- the turn's item
 here : (c : tie.After-known-told Inv-loop μ-loop) → let l = c .before .before .before .before .before in let v = c .before .s .given .0 in
-    Taken plainHead (l .before .before .before .before .args .area .now) (l .loop .at) (v .0) (v .1 .0) (v .1 .1 .0) (v .1 .1 .1 .0) (v .1 .1 .1 .1 .0)
+    Taken (l .before .before .before .before .args .area .now) (l .loop .at) (v .0) (v .1 .0) (v .1 .1 .0) (v .1 .1 .1 .0) (v .1 .1 .1 .1 .0)
 here c =
     let p = c .before .before .before in
     let l = p .before .before in
-    taken zero-flags (l .before .before .before .before .args .area .now) (l .loop .at) _ _ _ _ _ (sym (c .before .s .given .1) ∙ p .step .ensures)
+    taken (l .before .before .before .before .args .area .now) (l .loop .at) _ _ _ _ _ (sym (c .before .s .given .1) ∙ p .step .ensures)
 
 returns-3 : tie.Need-returns-3 Inv-loop μ-loop
 returns-3 c =

@@ -7,7 +7,7 @@ use native.Mathlib.Omega.{arith}
 use Rattle.lists.specs.Choice.{isSome}
 use Rattle.items.specs.Items.{parse}
 use Rattle.items.proofs.Area.{parse-stop, parse-end}
-use Rattle.items.proofs.Walk.{zero-flags, taken, stopped, fewer-some}
+use Rattle.items.proofs.Walk.{taken, stopped, fewer-some}
 use Rattle.items.proofs.well_formed_from.Statement.{statement}
 use Rattle.items.proofs.well_formed_from.Tie as tie
 
@@ -21,7 +21,7 @@ returns : tie.Need-returns Inv-loop μ-loop
 returns c =
     let l = c .before .before .before in
     let s = l .before .before .args .area .now in
-    let e = stopped zero-flags s (l .loop .i) (c .before .step .result) (c .before .step .ensures) (c .match .keys2) in
+    let e = stopped s (l .loop .i) (c .before .step .result) (c .before .step .ensures) (c .match .keys2) in
     sym (l .loop .inv .1 ∙ ap isSome (parse-stop (l .loop .left) (drop (l .loop .i) s) (omega arith) e))
 
 loop-again : tie.Need-loop-again Inv-loop μ-loop
@@ -29,7 +29,7 @@ loop-again c =
     let p = c .before .before .before in
     let l = p .before .before in
     let s = l .before .before .args .area .now in
-    let t = taken zero-flags s (l .loop .i) _ _ _ _ _ (sym (c .before .s .given .1) ∙ p .step .ensures) in
+    let t = taken s (l .loop .i) _ _ _ _ _ (sym (c .before .s .given .1) ∙ p .step .ensures) in
     (t .within, l .loop .inv .1 ∙ fewer-some (l .loop .left) t (omega arith))
 
 returns-2 : tie.Need-returns-2 Inv-loop μ-loop

@@ -10,11 +10,11 @@ use Rattle.lists.specs.Write.{part}
 use Rattle.lists.proofs.Places.{length-part}
 use Rattle.items.specs.Items.{Item, areaBytes, parse, itemsIn}
 use Rattle.items.proofs.Area.{count-items, area-length, read-back, back-good}
-use Rattle.items.proofs.ItemLaws.{parse-sane}
 use Rattle.calls.specs.Gate.{itemsOf}
 use Rattle.calls.specs.Calls.{Level}
 use Rattle.level_items.specs.Items.{rangedItems}
 use Rattle.level_items.proofs.Moved.{ranged-sane, ranged-short}
+use Rattle.gate.proofs.Gates.{passed-sane}
 use Rattle.level.proofs.write_file_in.Statement.{statement}
 use Rattle.level.proofs.write_file_in.Tie as tie
 
@@ -56,7 +56,7 @@ stands c =
     let b = c .before .before .before .before .before .before .before .before in
     let w = c .write-items .ensures .0 in
     read-back (new b) (array c) _ (c .write-items .result .length) (c .write-items .result .count) (w .2) (w .1) (w .0)
-    (ranged-sane (asked b) (b .args .undo) (b .args .range) (itemsIn (b .args .count) (area b)) (parse-sane (b .args .count) (area b)))
+    (ranged-sane (asked b) (b .args .undo) (b .args .range) (itemsIn (b .args .count) (area b)) (passed-sane (b .pre .0)))
     (omega (arith, long b, b .pre .0 .short, b .pre .0 .few))
 
 filed-requires : tie.Need-filed-requires

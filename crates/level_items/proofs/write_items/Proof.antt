@@ -9,7 +9,7 @@ use lib.ListN.{length, take}
 use Rattle.keys.specs.Keys.{undoKey}
 use Rattle.values.specs.Undo.{formatUndo}
 use Rattle.items.specs.Items.{Item, areaBytes, parse, itemsIn, setItem}
-use Rattle.items.proofs.Area.{count-items, area-length, read-back, back-good}
+use Rattle.items.proofs.Area.{AllSane, count-items, area-length, read-back, back-good}
 use Rattle.items.proofs.ItemLaws.{parse-sane}
 use Rattle.area_edit.specs.declared.Measure.{Measure}
 use Rattle.calls.specs.Calls.{Level, wraps, shiftedItems}
@@ -33,6 +33,12 @@ few b = count-items (b .args .count) (b .args .area .now) (b .pre .0)
 small : (b : tie.Start) → length (areaBytes (there b)) ≡ length (b .args .area .now)
 small b = area-length (b .args .count) (b .args .area .now) (b .pre .0)
 
+-- they can be read back
+sane : (c : tie.After-put-moved) → AllSane (there (c .before .before .before .before .before))
+sane c =
+    let b = c .before .before .before .before .before in
+    parse-sane (b .args .count) (b .args .area .now) (λ i. omega (arith, c .before .before .before .before .shared-slice-known .given i))
+
 put-moved-requires : tie.Need-put-moved-requires
 put-moved-requires c κs =
     let b = c .before .before .before .before in
@@ -47,7 +53,7 @@ moved-stand c =
     let b = c .before .before .before .before .before in
     let w = c .put-moved .ensures in
     read-back (shiftedItems (asked b) (there b)) (moved c) _ (c .put-moved .result .length) (c .put-moved .result .count) (w .2) (w .1) (w .0)
-    (shifted-sane (asked b) (there b) (parse-sane (b .args .count) (b .args .area .now)))
+    (shifted-sane (asked b) (there b) (sane c))
     (omega (arith, moved-short (asked b) (there b), few b, small b, b .pre .1, b .pre .2))
 
 part-put-undo-end : tie.Need-part-put-undo-end
@@ -93,7 +99,7 @@ module _ (c : tie.After-put-undo) where
   undone-stand =
       let w = wrote-undone in
       read-back (undoneItems (asked b) (b .args .undo) (there b)) (undone c) _ (c .put-undo .result .length) (c .put-undo .result .count) (w .2) (w .1) (w .0)
-      (undone-sane (asked b) (b .args .undo) (there b) (parse-sane (b .args .count) (b .args .area .now)))
+      (undone-sane (asked b) (b .args .undo) (there b) (sane p))
       (omega (arith, undone-short (asked b) (b .args .undo) (there b), few b, small b, b .pre .1, b .pre .2))
 
 part-put-range-end : tie.Need-part-put-range-end

@@ -42,7 +42,7 @@ there c = read-items (readTag (c .before .before .before .before .before .before
 
 back : (c : tie.After-known-told) → let n = c .before .t .given .0 .0 in let l = c .before .t .given .0 .1 .0 in
     (parse n (take (l - 0) (array (c .before .before .before .before .before))) ≡ some (there c .items)) × (length (take (l - 0) (array (c .before .before .before .before .before))) ≡ l) × (l ≤ 3 * length (c .before .before .before .before .before .before .before .before .before .args .file .now))
-back c = items-back (c .before .before .before .before .before .before .before .before .before .args .file .now) (c .before .before .before .before .before .before .before .before .before .pre .0) (there c) (array (c .before .before .before .before .before)) (c .before .before .before .before .before .before .before .before .before .args .area .now) (wrote (c .before .before .before .before .before))
+back c = items-back (c .before .before .before .before .before .before .before .before .before .args .file .now) (λ i. omega (arith, c .before .before .before .before .before .before .before .before .shared-slice-known .given i)) (c .before .before .before .before .before .before .before .before .before .pre .0) (there c) (array (c .before .before .before .before .before)) (c .before .before .before .before .before .before .before .before .before .args .area .now) (wrote (c .before .before .before .before .before))
 
 part-put-listed-end : tie.Need-part-put-listed-end
 part-put-listed-end c =
