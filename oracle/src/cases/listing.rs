@@ -46,11 +46,8 @@ fn print(text: &mut String, part: &str, key: bool) {
     }
 }
 
-/// Document 01's listing of what the published reader gives; a tag with flags is listed by `flags`.
-pub fn published(file: &[u8]) -> Vec<u8> {
-    if flags::in_file(file) {
-        return flags::list(file);
-    }
+/// Document 01's listing of what the published reader gives.
+fn by_reader(file: &[u8]) -> Vec<u8> {
     if file.len() > LIMIT {
         return b"refused=1\n".to_vec();
     }
@@ -63,6 +60,14 @@ pub fn published(file: &[u8]) -> Vec<u8> {
         text.push('\n');
     }
     text.into_bytes()
+}
+
+/// The same; a tag with flags is listed by `flags`.
+pub fn published(file: &[u8]) -> Vec<u8> {
+    if flags::in_file(file) {
+        return flags::list(file);
+    }
+    by_reader(file)
 }
 
 /// A tag of these raw items, with this count in its footer and `before` bytes in front.
@@ -201,7 +206,7 @@ fn bench(b: &mut Bench) {
         let file = &whole[whole.len().saturating_sub(LIMIT)..];
         b.row(
             &format!("list_tag, {n} {things} (Rust: its reader, and a text of its items)"),
-            || published(file),
+            || by_reader(file),
             || library::list_tag(file, &mut text),
         );
     }
