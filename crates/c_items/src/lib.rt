@@ -30,8 +30,8 @@ pub extern "C" fn zib_which_key(key: &[u8]) -> usize
     }
 }
 
-// The item that begins at this place of the area: `there` is 1, with where its key and its value start and end, or all five are 0 at the
-// end of the area. The next item begins where the value ends. Refusal 12.
+// The item that begins at this place of the area: `there` is 1, with its flags and where its key and its value start and end, or all six are 0
+// at the end of the area. The next item begins where the value ends. Refusal 12.
 #[no_mangle]
 pub extern "C" fn zib_item_at(
     area: &[u8],
