@@ -1,6 +1,6 @@
 -- Items with flags zero, which the published Rust reads and writes as the library does: every edit keeps them so, and the gate asks of them what it
 -- asks of any text.
-use Prim.Native.Nat.{ℕ}
+use Prim.Native.Nat.{ℕ, zero, suc}
 use native.Mathlib.Omega.{arith}
 use mathlib.Core.Path.{_≡_, refl}
 use mathlib.Core.Bool.{Bool, true, false, _&&_, cond}
@@ -13,8 +13,11 @@ use Rattle.frame.specs.declared.GainMode.the-variants.{Saturating, Wrapping}
 use Rattle.utf8.specs.Utf8.{valid}
 use Rattle.keys.specs.Keys.{sameKey, isUndone}
 use Rattle.values.specs.Stored.{rangeWrapsOut, shiftStored}
-use Rattle.items.specs.Items.{Item, withValue, newItem, setItem, without}
-use Rattle.calls.specs.Gate.{itemValid}
+use Rattle.lossy.specs.Lossy.{lossy}
+use Rattle.items.specs.Items.{Item, Head, head, parse, withValue, textItem, newItem, setItem, without}
+use Rattle.ape.specs.Tag.{findFooter, countAt, areaAt, readValue, converted, readItems}
+use Rattle.ape.specs.declared.Footer.the-variants.{At}
+use Rattle.calls.specs.Gate.{fit, itemValid, allValid, gateItems}
 use Rattle.calls.specs.Calls.{Level, staying, shiftItem, shiftStoredGain, sameStep, shiftedItems, levelItems}
 
 -- P holds of each item
@@ -96,3 +99,38 @@ plain-levelled = each-levelled Plain (λ k v. refl) plain-again
 pub plain-item : (t : Item) → Plain t → itemValid t ≡ (valid (t .key) && valid (t .value))
 unfolding itemValid
 plain-item t e = rw e
+
+-- every key and every value is UTF-8
+abbrev pub textsValid : List Item → Bool
+textsValid [] = true
+textsValid (t ∷ ts) = (valid (t .key) && valid (t .value)) && textsValid ts
+
+-- the same of a list of them
+pub plain-items : (ts : List Item) → Each Plain ts → allValid ts ≡ textsValid ts
+unfolding allValid
+plain-items [] h = refl
+plain-items (t ∷ ts) (a, r) = rw (plain-item t a, plain-items ts r)
+
+-- a file whose items have flags zero and texts that are UTF-8 passes the gate, with these items
+pub plain-gate : (s : List ℕ) (f : ℕ) (ts : List Item) → findFooter s ≡ At f → fit s f ≡ true → parse (countAt s f) (areaAt s f) ≡ some ts → Each Plain ts
+    → textsValid ts ≡ true → gateItems s ≡ some ts
+unfolding gateItems
+plain-gate s f ts a b c h v = rw (a, b, c, plain-items ts h, v)
+
+-- what the published Rust reads: keys and values through `lossy`, flags zero
+abbrev pub readPlain : ℕ → List ℕ → List Item
+readPlain zero s = []
+readPlain (suc n) s = found (head s) [] (λ h. textItem (lossy (h .item .key)) (lossy (h .item .value)) ∷ readPlain n (h .rest))
+
+-- where the flags that are read are zero, reading gives just that
+pub plain-reading : (n : ℕ) (s : List ℕ) → Each Plain (readItems n s) → readItems n s ≡ readPlain n s
+unfolding readItems readValue
+plain-reading zero s k = refl
+plain-reading (suc n) s k = go (head s) k (λ r. plain-reading n r)
+  where
+    go : (o : Option Head) → Each Plain (found o [] (λ h. converted (h .item .flags) (h .item .key) (h .item .value) ∷ readItems n (h .rest)))
+        → ((r : List ℕ) → Each Plain (readItems n r) → readItems n r ≡ readPlain n r)
+        → found o [] (λ h. converted (h .item .flags) (h .item .key) (h .item .value) ∷ readItems n (h .rest))
+        ≡ found o [] (λ h. textItem (lossy (h .item .key)) (lossy (h .item .value)) ∷ readPlain n (h .rest))
+    go none k ih = refl
+    go (some h) (a, r) ih = rw (a, ih (h .rest) r)
