@@ -44,7 +44,15 @@ enum zib_refusal {
     ZIB_NO_UNDO = 10,           /* the file has no undo item */
     ZIB_UNDO_OUT_OF_RANGE = 11, /* an undo number would leave -32,768..32,767 */
     ZIB_MALFORMED_AREA = 12,    /* the item area is not exactly `count` items */
-    ZIB_MALFORMED_SLIP = 13     /* the level slip has another form */
+    ZIB_MALFORMED_SLIP = 13,    /* the level slip has another form */
+    ZIB_SECOND_UNDO = 14        /* the file has more than one undo item */
+};
+
+/* The mode of a level slip: how gains meet the ends of 0..255. */
+enum zib_mode {
+    ZIB_MODE_N = 0,      /* they are held there: the flag N */
+    ZIB_MODE_W = 1,      /* they wrap: the flag W */
+    ZIB_MODE_UNNAMED = 2 /* the slip has no line that says so: see zib_resolve_mode */
 };
 
 /* ---- Level and undo: libc_level.a */
@@ -53,14 +61,14 @@ enum zib_refusal {
  * global_gain of a granule and channel of an MP3 frame; the caller reads the gains from the sound and writes them back. `wrap` is the flag:
  * false for N (a gain is held within 0..255, and 0 stays 0), true for W (modulo 256). `right` is empty for a mono file. The new file goes
  * to the front of `out` and its length to `written`; `peaks` is the number of peak items in its tag, which stay as they were. An output of
- * file_len + 32 * ZIB_ITEM_LIMIT + 140 bytes is long enough for every file. Refusals 1, 2, 7, 8, 9, 11, 6 and 5. */
+ * file_len + 32 * ZIB_ITEM_LIMIT + 140 bytes is long enough for every file. Refusals 1, 2, 7, 8, 14, 9, 11, 6 and 5. */
 uint32_t zib_level(
     const uint8_t *file, size_t file_len, uint8_t *left, size_t left_len, uint8_t *right, size_t right_len, int32_t left_steps,
     int32_t right_steps, bool wrap, uint8_t *out, size_t out_len, size_t *written, size_t *peaks);
 
 /* Moves every gain back by the numbers and the flag of the stored undo item, and writes the file without mp3gain's eight keys. The new file
  * goes to the front of `out` and its length to `written`; `peaks` is 0. An output of file_len + 11 bytes is long enough for every file, and
- * one of file_len bytes for a file that was settled before it was levelled. Refusals 1, 7, 8, 10 and 5. */
+ * one of file_len bytes for a file that was settled before it was levelled. Refusals 1, 7, 8, 14, 10 and 5. */
 uint32_t zib_undo(
     const uint8_t *file, size_t file_len, uint8_t *left, size_t left_len, uint8_t *right, size_t right_len, uint8_t *out,
     size_t out_len, size_t *written, size_t *peaks);
@@ -71,6 +79,22 @@ uint32_t zib_undo(
 uint32_t zib_shift_stored_gain(
     const uint8_t *area, size_t area_len, size_t count, int32_t steps, bool wrap, uint8_t *out, size_t out_len, size_t *items,
     size_t *written);
+
+/* ---- The level slip, which asks for a level in three lines: libc_slip.a */
+
+/* Reads a level slip: the steps of either side, and its mode. Refusals 13 and 2. */
+uint32_t zib_parse_slip(const uint8_t *text, size_t text_len, int32_t *left, int32_t *right, uint32_t *mode);
+
+/* Says what the mode of a slip means for a file: ZIB_MODE_N and ZIB_MODE_W stay as they are, and ZIB_MODE_UNNAMED becomes the flag of the
+ * file's undo item, or ZIB_MODE_W where it has none or does not pass the editing gate. An undo text without a W has the flag N. It takes no
+ * notice of a second undo item. Refusal 13 for a number that is no mode. */
+uint32_t zib_resolve_mode(const uint8_t *file, size_t file_len, uint32_t mode, uint32_t *resolved);
+
+/* Does what zib_level does, as a slip asks: by its steps, and by its mode as zib_resolve_mode says. Refusals 13, 1, 2, 7, 8, 14, 9, 11, 6
+ * and 5. */
+uint32_t zib_level_by_slip(
+    const uint8_t *slip, size_t slip_len, const uint8_t *file, size_t file_len, uint8_t *left, size_t left_len, uint8_t *right,
+    size_t right_len, uint8_t *out, size_t out_len, size_t *written, size_t *peaks);
 
 /* ---- Items of a file's tag, and the editing gate: libc_edit.a */
 
@@ -141,13 +165,14 @@ uint32_t zib_item_at(
     const uint8_t *area, size_t area_len, size_t at, uint32_t *there, uint32_t *flags, size_t *key_start, size_t *key_end,
     size_t *value_start, size_t *value_end);
 
-/* Finds the value of the first item with this key: `there` is 1, with its place and its size in the area, or all three are 0 where no item
- * has the key. Refusals 12 and 3. */
+/* Finds the value of the first item with this key: `there` is 1, with its place and its size in the area, and `repeated` is 1 where a later
+ * item has the key too, else 0. All four are 0 where no item has the key. Refusals 12 and 3. */
 uint32_t zib_get(
     const uint8_t *area, size_t area_len, size_t count, const uint8_t *key, size_t key_len, uint32_t *there, size_t *start,
-    size_t *size);
+    size_t *size, uint32_t *repeated);
 
-/* Reads the left number of the first undo item: `there` is 1 and `steps` the number, or both are 0 where there is none. Refusal 12. */
+/* Reads the left number of the first undo item, and takes no notice of a second one: `there` is 1 and `steps` the number, or both are 0 where
+ * there is none. Refusal 12. */
 uint32_t zib_get_undo_gain(const uint8_t *area, size_t area_len, size_t count, uint32_t *there, int32_t *steps);
 
 /* ---- Edits of an item area. Each writes the new area to the front of `out`, the number of its items into `items` and its length into
@@ -191,7 +216,7 @@ uint32_t zib_set_replaygain(
     size_t track_peak_len, const uint8_t *album_gain, size_t album_gain_len, const uint8_t *album_peak, size_t album_peak_len,
     const uint8_t *algorithm, size_t algorithm_len, uint8_t *out, size_t out_len, size_t *items, size_t *written);
 
-/* ---- The values that mp3gain keeps in a tag, and the level slip: libc_values.a. A call here that has no refusals always answers 0. */
+/* ---- The values that mp3gain keeps in a tag: libc_values.a. A call here that has no refusals always answers 0. */
 
 /* Reads an undo text: its two numbers, and 1 for the flag W or 0 for N. An empty text reads as 0, 0 and N. */
 uint32_t zib_parse_undo(const uint8_t *text, size_t text_len, int32_t *left, int32_t *right, uint32_t *wrap);
@@ -217,9 +242,6 @@ uint32_t zib_steps_to_db(int32_t steps, uint32_t *minus, uint64_t *millionths, u
 uint32_t zib_shift_stored_value(
     const uint8_t *key, size_t key_len, const uint8_t *value, size_t value_len, int32_t steps, uint32_t *moved, uint8_t *out,
     size_t out_len, size_t *written);
-
-/* Reads a level slip: the steps of either side, and 1 for the flag W or 0 for N. Refusals 13 and 2. */
-uint32_t zib_parse_slip(const uint8_t *text, size_t text_len, int32_t *left, int32_t *right, uint32_t *wrap);
 
 /* ---- UTF-8: libc_utf8.a */
 

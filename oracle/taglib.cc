@@ -107,11 +107,11 @@ static size_t our_set(const Bytes &file, const std::string &k, Bytes &out) {
 // The value that the library finds in a file.
 static std::string value_in(const Bytes &file, const std::string &k) {
     Bytes area(3 * file.size());
-    uint32_t there;
+    uint32_t there, repeated;
     size_t items, written, start, size;
     if (zib_read_ape_tag(file.data(), file.size(), area.data(), area.size(), &there, &items, &written) || !there)
         fail("a written tag is not read");
-    if (zib_get(area.data(), written, items, (const uint8_t *)k.data(), k.size(), &there, &start, &size) || !there)
+    if (zib_get(area.data(), written, items, (const uint8_t *)k.data(), k.size(), &there, &start, &size, &repeated) || !there)
         fail("a set item is not found");
     return std::string(area.begin() + start, area.begin() + start + size);
 }

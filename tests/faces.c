@@ -76,16 +76,54 @@ static void values(void)
     CHECK(zib_steps_to_db(-2, &flag, &millionths, &rest) == 0 && flag == 1 && millionths == 3010299 && rest == 956639812);
     CHECK(zib_shift_stored_value(TEXT("MP3GAIN_MINMAX"), TEXT("094,168"), 100, &flag, out, sizeof out, &n) == 0 && flag == 1 && IS(out, n, "194,255"));
     CHECK(zib_shift_stored_value(TEXT("REPLAYGAIN_TRACK_PEAK"), TEXT("0.9"), 1, &flag, out, sizeof out, &n) == 0 && flag == 0);
-    CHECK(zib_parse_slip(TEXT("left=-3\nright=+4\nmode=W\n"), &left, &right, &flag) == 0 && left == -3 && right == 4 && flag == 1);
-    CHECK(zib_parse_slip(TEXT("right=4\nleft=3\n"), &left, &right, &flag) == ZIB_MALFORMED_SLIP);
-    CHECK(zib_parse_slip(TEXT("left=256\nright=0\n"), &left, &right, &flag) == ZIB_STEP_OUT_OF_RANGE);
+}
+
+#define FIVES "left=5\nright=5\n"
+
+static void slips(void)
+{
+    uint8_t one[512], two[512], gain[1] = {252};
+    int32_t left = 0, right = 0;
+    uint32_t mode = 7;
+    size_t n = 7, m = 7, peaks = 7;
+    CHECK(zib_parse_slip(TEXT("left=-3\nright=+4\nmode=W\n"), &left, &right, &mode) == 0 && left == -3 && right == 4 && mode == ZIB_MODE_W);
+    CHECK(zib_parse_slip(TEXT(FIVES "mode=N\n"), &left, &right, &mode) == 0 && left == 5 && right == 5 && mode == ZIB_MODE_N);
+    CHECK(zib_parse_slip(TEXT(FIVES), &left, &right, &mode) == 0 && mode == ZIB_MODE_UNNAMED);
+    CHECK(zib_parse_slip(TEXT("right=4\nleft=3\n"), &left, &right, &mode) == ZIB_MALFORMED_SLIP && left == 5 && mode == ZIB_MODE_UNNAMED);
+    CHECK(zib_parse_slip(TEXT("left=256\nright=0\n"), &left, &right, &mode) == ZIB_STEP_OUT_OF_RANGE);
+    CHECK(zib_resolve_mode(TEXT("audio"), ZIB_MODE_UNNAMED, &mode) == 0 && mode == ZIB_MODE_W);
+    CHECK(zib_resolve_mode(TEXT("audio"), ZIB_MODE_N, &mode) == 0 && mode == ZIB_MODE_N);
+    CHECK(zib_resolve_mode(TEXT("audio"), 3, &mode) == ZIB_MALFORMED_SLIP && mode == ZIB_MODE_N);
+    /* a stored N is kept by a slip without a mode, and a written W meets refusal 9 */
+    CHECK(zib_level(TEXT("audio"), gain, 1, NONE, 0, 0, false, one, sizeof one, &n, &peaks) == 0);
+    CHECK(zib_resolve_mode(one, n, ZIB_MODE_UNNAMED, &mode) == 0 && mode == ZIB_MODE_N);
+    CHECK(zib_level_by_slip(TEXT(FIVES "mode=W\n"), one, n, gain, 1, NONE, two, sizeof two, &m, &peaks) == ZIB_FLAG_DIFFERS && gain[0] == 252 && m == 7);
+    CHECK(zib_level_by_slip(TEXT(FIVES), one, n, gain, 1, NONE, two, sizeof two, &m, &peaks) == 0 && gain[0] == 255);
+    gain[0] = 252;
+    CHECK(zib_level_by_slip(TEXT(FIVES), TEXT("audio"), gain, 1, NONE, two, sizeof two, &m, &peaks) == 0 && gain[0] == 1 && peaks == 0);
+    CHECK(zib_undo(two, m, gain, 1, NONE, one, sizeof one, &n, &peaks) == 0 && gain[0] == 252 && IS(one, n, "audio"));
+    CHECK(zib_level_by_slip(TEXT("left=5\n"), TEXT("audio"), NONE, NONE, one, 0, &n, &peaks) == ZIB_MALFORMED_SLIP);
+    CHECK(zib_level_by_slip(TEXT("left=256\nright=0\n"), TEXT("audio"), NONE, NONE, one, 0, &n, &peaks) == ZIB_STEP_OUT_OF_RANGE);
+    /* two undo items, spelled otherwise: 14, until both are removed */
+    uint8_t area[128];
+    size_t count = 0, length = 0, start = 0, size = 0;
+    uint32_t there = 7, repeated = 7;
+#define UNDOS "\x0b\0\0\0" "\0\0\0\0" "MP3GAIN_UNDO\0" "+003,+003,W" "\x0b\0\0\0" "\0\0\0\0" "mp3gain_undo\0" "+001,+001,N"
+    CHECK(zib_get(TEXT(UNDOS), 2, TEXT("Mp3gain_Undo"), &there, &start, &size, &repeated) == 0 && there == 1 && start == 21 && size == 11 && repeated == 1);
+    CHECK(zib_replace_ape_tag(TEXT("audio"), TEXT(UNDOS), 2, one, sizeof one, &n) == 0);
+    CHECK(zib_undo(one, n, gain, 1, NONE, two, sizeof two, &m, &peaks) == ZIB_SECOND_UNDO && gain[0] == 252);
+    CHECK(zib_level(one, n, gain, 1, NONE, 1, 1, true, two, sizeof two, &m, &peaks) == ZIB_SECOND_UNDO);
+    CHECK(zib_level_by_slip(TEXT(FIVES), one, n, gain, 1, NONE, two, sizeof two, &m, &peaks) == ZIB_SECOND_UNDO && gain[0] == 252);
+    CHECK(zib_resolve_mode(one, n, ZIB_MODE_UNNAMED, &mode) == 0 && mode == ZIB_MODE_W);
+    CHECK(zib_read_ape_tag(one, n, area, sizeof area, &there, &count, &length) == 0 && there == 1 && count == 2 && IS(area, length, UNDOS));
+    CHECK(zib_remove_ape_item(one, n, TEXT("MP3GAIN_UNDO"), two, sizeof two, &m) == 0 && IS(two, m, "audio"));
 }
 
 static void items(void)
 {
     uint8_t a[256], b[256];
     size_t count = 0, n = 0, start = 0, size = 0;
-    uint32_t there = 7, flags = 7;
+    uint32_t there = 7, flags = 7, repeated = 7;
     int32_t steps = 7;
     CHECK(zib_is_key(TEXT("AB")) && !zib_is_key(TEXT("A")) && !zib_is_key(TEXT("tag")));
     CHECK(zib_which_key(TEXT("mp3gain_undo")) == 0 && zib_which_key(TEXT("AB")) == 8);
@@ -95,8 +133,9 @@ static void items(void)
     CHECK(zib_item_at(TEXT(COVER), 0, &there, &flags, &key_start, &key_end, &start, &size) == 0 && there == 1 && flags == 3);
     CHECK(zib_item_at(TEXT(COVER), 1, &there, &flags, &key_start, &key_end, &start, &size) == ZIB_MALFORMED_AREA && there == 1 && flags == 3);
     CHECK(zib_item_at(TEXT(AREA), 12, &there, &flags, &key_start, &key_end, &start, &size) == 0 && there == 0 && flags == 0 && key_end == 0);
-    CHECK(zib_get(TEXT(AREA), 1, TEXT("ab"), &there, &start, &size) == 0 && there == 1 && start == 11 && size == 1);
-    CHECK(zib_get(TEXT(AREA), 2, TEXT("ab"), &there, &start, &size) == ZIB_MALFORMED_AREA);
+    CHECK(zib_get(TEXT(AREA), 1, TEXT("ab"), &there, &start, &size, &repeated) == 0 && there == 1 && start == 11 && size == 1 && repeated == 0);
+    CHECK(zib_get(TEXT(AREA AREA), 2, TEXT("ab"), &there, &start, &size, &repeated) == 0 && start == 11 && repeated == 1);
+    CHECK(zib_get(TEXT(AREA), 2, TEXT("ab"), &there, &start, &size, &repeated) == ZIB_MALFORMED_AREA && repeated == 1);
     CHECK(zib_set(NONE, 0, TEXT("ab"), TEXT("c"), a, sizeof a, &count, &n) == 0 && count == 1 && IS(a, n, AREA));
     CHECK(zib_set(NONE, 0, TEXT("A"), TEXT("c"), a, sizeof a, &count, &n) == ZIB_BAD_KEY);
     CHECK(zib_set(NONE, 0, TEXT("AB"), TEXT("\xff"), a, sizeof a, &count, &n) == ZIB_NOT_UTF8);
@@ -149,7 +188,7 @@ static void files(void)
 static void pictures(void)
 {
     uint8_t area[256], file[256], one[512], two[512], gain[1] = {10};
-    uint32_t there = 7;
+    uint32_t there = 7, repeated = 7;
     size_t count = 0, n = 0, m = 0, k = 0, peaks = 7, start = 7, end = 7;
     CHECK(zib_read_ape_tag(TEXT(ITEMS(COVER AREA, "\x3c", "\2")), area, sizeof area, &there, &count, &n) == 0 && count == 2 && IS(area, n, COVER AREA));
     CHECK(zib_replace_ape_tag(TEXT("audio"), area, n, count, file, sizeof file, &m) == 0 && m == 5 + 64 + 28);
@@ -161,7 +200,7 @@ static void pictures(void)
     CHECK(zib_set_ape_item(file, m, TEXT("Cover"), TEXT("x"), one, sizeof one, &n) == 0);
     CHECK(memcmp(one + 37, "\1\0\0\0" "\1\0\0\0" "COVER\0" "x", 15) == 0); /* text now, and read-only still */
     CHECK(zib_set(TEXT(COVER), 1, TEXT("cover"), TEXT("x"), one, sizeof one, &count, &n) == 0 && IS(one, n, "\1\0\0\0" "\1\0\0\0" "COVER\0" "x"));
-    CHECK(zib_get(TEXT(COVER), 1, TEXT("cover"), &there, &start, &end) == 0 && there == 1 && start == 14 && end == 2);
+    CHECK(zib_get(TEXT(COVER), 1, TEXT("cover"), &there, &start, &end, &repeated) == 0 && there == 1 && start == 14 && end == 2);
     CHECK(zib_remove(TEXT(COVER AREA), 2, TEXT("ab"), one, sizeof one, &count, &n) == 0 && count == 1 && IS(one, n, COVER));
     /* type 3 is read as text, and not edited; so are bits above bit 2 */
     CHECK(zib_read_ape_tag(TEXT(ITEMS(FLAGGED("\6\0\0\0", "\xff"), "\x2c", "\1")), area, sizeof area, &there, &count, &n) == 0 && IS(area, n, "\3\0\0\0" "\6\0\0\0" "AB\0" "\xef\xbf\xbd"));
@@ -197,10 +236,14 @@ static void empty(void)
     CHECK(zib_shift_stored_value(NONE, NONE, 1, &flag, NONE, &a) == 0 && flag == 0 && a == 0);
     CHECK(zib_shift_stored_value(TEXT("MP3GAIN_MINMAX"), TEXT("1,2"), 1, &flag, NONE, &a) == ZIB_NO_ROOM);
     CHECK(zib_parse_slip(NONE, &left, &right, &flag) == ZIB_MALFORMED_SLIP);
+    CHECK(zib_resolve_mode(NONE, ZIB_MODE_UNNAMED, &flag) == 0 && flag == ZIB_MODE_W);
+    CHECK(zib_level_by_slip(NONE, NONE, NONE, NONE, NONE, &a, &b) == ZIB_MALFORMED_SLIP);
+    CHECK(zib_level_by_slip(TEXT(FIVES), NONE, NONE, NONE, NONE, &a, &b) == ZIB_NO_LEFT_GAINS);
+    CHECK(zib_level_by_slip(TEXT(FIVES), NONE, gain, 1, NONE, NONE, &a, &b) == ZIB_NO_ROOM && gain[0] == 9);
     CHECK(!zib_is_key(NONE) && zib_which_key(NONE) == 8);
     CHECK(zib_item_at(NONE, 0, &there, &flag, &a, &b, &c, &d) == 0 && there == 0 && flag == 0 && a == 0 && b == 0 && c == 0 && d == 0);
-    CHECK(zib_get(NONE, 0, TEXT("AB"), &there, &a, &b) == 0 && there == 0);
-    CHECK(zib_get(NONE, 0, NONE, &there, &a, &b) == ZIB_BAD_KEY && zib_get(NONE, 1, NONE, &there, &a, &b) == ZIB_MALFORMED_AREA);
+    CHECK(zib_get(NONE, 0, TEXT("AB"), &there, &a, &b, &flag) == 0 && there == 0 && flag == 0);
+    CHECK(zib_get(NONE, 0, NONE, &there, &a, &b, &flag) == ZIB_BAD_KEY && zib_get(NONE, 1, NONE, &there, &a, &b, &flag) == ZIB_MALFORMED_AREA);
     CHECK(zib_get_undo_gain(NONE, 0, &there, &left) == 0 && there == 0 && left == 0);
     CHECK(zib_set(NONE, 0, TEXT("AB"), NONE, out, sizeof out, &a, &b) == 0 && a == 1 && b == 11);
     CHECK(zib_set(NONE, 0, NONE, NONE, NONE, &a, &b) == ZIB_BAD_KEY && zib_set(NONE, 0, TEXT("AB"), NONE, NONE, &a, &b) == ZIB_NO_ROOM);
@@ -305,6 +348,7 @@ int main(void)
     frame();
     utf8();
     values();
+    slips();
     items();
     files();
     pictures();

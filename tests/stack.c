@@ -59,7 +59,7 @@ static const char *names[] = {
     "zib_get_undo_gain", "zib_set", "zib_remove", "zib_remove_replaygain", "zib_drop_undone", "zib_take_mp3gain", "zib_set_undo_gain", "zib_set_minmax",
     "zib_set_replaygain", "zib_parse_undo", "zib_format_undo_value", "zib_accumulate_undo", "zib_format_minmax", "zib_range_wraps_out",
     "zib_steps_to_db", "zib_shift_stored_value", "zib_parse_slip", "zib_is_utf8", "zib_lossy_size", "zib_lossy_into", "zib_read_u32_le",
-    "zib_ends_with_id3v1", "zib_ape_tag_start", "zib_adjust_gain_value",
+    "zib_ends_with_id3v1", "zib_ape_tag_start", "zib_adjust_gain_value", "zib_resolve_mode", "zib_level_by_slip",
 };
 enum { CALLS = sizeof names / sizeof *names, WAYS = 3 };
 
@@ -114,7 +114,7 @@ static void call(int which, int way, int tag)
     case 12: zib_is_key(k, kn); break;
     case 13: zib_which_key(k, kn); break;
     case 14: zib_item_at(area, area_len, 0, &t, &f, &a, &b, &c, &d); break;
-    case 15: zib_get(area, area_len, count, k, kn, &t, &a, &b); break;
+    case 15: zib_get(area, area_len, count, k, kn, &t, &a, &b, &f); break;
     case 16: zib_get_undo_gain(area, area_len, count, &t, &l); break;
     case 17: zib_set(area, area_len, count, k, kn, v, vn, out, sizeof out, &a, &b); break;
     case 18: zib_remove(area, area_len, count, k, kn, out, sizeof out, &a, &b); break;
@@ -144,6 +144,17 @@ static void call(int which, int way, int tag)
     case 37: zib_ends_with_id3v1(file, file_len); break;
     case 38: zib_ape_tag_start(file, file_len, file_len < 32 ? 0 : file_len - 32, &t, &a); break;
     case 39: zib_adjust_gain_value(250, 10, way == 1); break;
+    case 40: zib_resolve_mode(file, file_len, ZIB_MODE_UNNAMED, &t); break;
+    case 41: {
+        static const char *slips[] = {"left=-3\nright=-3\n", "left=-3\nright=5\n", "left=-3\nright=-3\n"};
+        const uint8_t *slip = (const uint8_t *)slips[way];
+        reply = zib_level_by_slip(slip, strlen(slips[way]), file, file_len, left, sizeof left, right, sizeof right, out, sizeof out, &a, &b);
+        if (reply != 0) {
+            printf("stack: level by a slip is refused with %u\n", reply);
+            exit(1);
+        }
+        break;
+    }
     }
 }
 

@@ -2,7 +2,7 @@
 
 use std::path::PathBuf;
 
-const MODULES: [&str; 9] = ["frame", "utf8", "values", "items", "area", "ape", "edit", "level", "list"];
+const MODULES: [&str; 10] = ["frame", "utf8", "values", "items", "area", "ape", "edit", "level", "slip", "list"];
 
 fn main() {
     println!("cargo:rerun-if-env-changed=ZIBRUNNOS_ARCHIVES");

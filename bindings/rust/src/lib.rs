@@ -64,6 +64,8 @@ pub enum Refusal {
     MalformedArea = 12,
     /// The level slip has another form.
     MalformedSlip = 13,
+    /// The file has more than one undo item.
+    SecondUndo = 14,
 }
 
 impl Refusal {
@@ -88,6 +90,7 @@ impl Refusal {
             UndoOutOfRange,
             MalformedArea,
             MalformedSlip,
+            SecondUndo,
         ];
         all[number as usize - 1]
     }
@@ -114,6 +117,7 @@ impl fmt::Display for Refusal {
             Refusal::UndoOutOfRange => "an undo number would leave -32,768..32,767",
             Refusal::MalformedArea => "the bytes are not the items that they are said to be",
             Refusal::MalformedSlip => "the level slip has another form",
+            Refusal::SecondUndo => "the file has more than one undo item",
         })
     }
 }
@@ -161,7 +165,7 @@ impl Mode {
     }
 }
 
-/// A number of steps for either side, and the mode: what an undo item holds, or a level slip asks for.
+/// A number of steps for either side, and the mode: what an undo item holds.
 #[derive(Clone, Copy, Debug, PartialEq, Eq)]
 pub struct Steps {
     pub left: i32,
@@ -238,15 +242,35 @@ impl Items {
         Ok(())
     }
 
-    /// The value of the first item with this key. The letter case of the key does not matter, here and everywhere.
-    pub fn get(&self, key: &[u8]) -> Result<Option<&[u8]>> {
-        let (mut there, mut start, mut size) = (0, 0, 0);
+    /// The value of the first item with this key, and whether a later one has it too.
+    fn found(&self, key: &[u8]) -> Result<Option<(&[u8], bool)>> {
+        let (mut there, mut start, mut size, mut repeated) = (0, 0, 0, 0);
         let a = &self.bytes;
         // SAFETY: each pointer is that of a slice with the length beside it.
         let reply = unsafe {
-            raw::zib_get(a.as_ptr(), a.len(), self.count, key.as_ptr(), key.len(), &mut there, &mut start, &mut size)
+            raw::zib_get(
+                a.as_ptr(),
+                a.len(),
+                self.count,
+                key.as_ptr(),
+                key.len(),
+                &mut there,
+                &mut start,
+                &mut size,
+                &mut repeated,
+            )
         };
-        done(reply, (there == 1).then(|| &self.bytes[start..start + size]))
+        done(reply, (there == 1).then(|| (&self.bytes[start..start + size], repeated == 1)))
+    }
+
+    /// The value of the first item with this key. The letter case of the key does not matter, here and everywhere.
+    pub fn get(&self, key: &[u8]) -> Result<Option<&[u8]>> {
+        Ok(self.found(key)?.map(|(value, _)| value))
+    }
+
+    /// Whether more than one item has this key. The specification allows it once; a second undo item stops [`level`] and [`undo`].
+    pub fn repeated(&self, key: &[u8]) -> Result<bool> {
+        Ok(self.found(key)?.is_some_and(|(_, repeated)| repeated))
     }
 
     /// Sets the value of the first item with this key, which keeps its spelling and its place, or adds an item with the key in upper case
@@ -266,7 +290,7 @@ impl Items {
         })
     }
 
-    /// The left number of the first undo item.
+    /// The left number of the first undo item, whether or not there is a second one.
     pub fn undo_gain(&self) -> Result<Option<i32>> {
         let (mut there, mut steps) = (0, 0);
         // SAFETY: as in `get`.
@@ -596,10 +620,8 @@ pub fn level(
     mode: Mode,
 ) -> Result<Levelled> {
     let mut peaks = 0;
-    // Each item may grow by 32 bytes, the two that are set take 76 at most, and header and footer 64.
-    let room = file.len() + 32 * ITEM_LIMIT + 140;
     // SAFETY: as in `read_tag`; both lists of gains are borrowed alone.
-    let file = filled(room, |out, room, written| unsafe {
+    let file = filled(level_room(file), |out, room, written| unsafe {
         raw::zib_level(
             file.as_ptr(),
             file.len(),
@@ -617,6 +639,11 @@ pub fn level(
         )
     })?;
     Ok(Levelled { file, peaks })
+}
+
+/// How long the new file of a level can be: each item may grow by 32 bytes, the two that are set take 76 at most, and header and footer 64.
+fn level_room(file: &[u8]) -> usize {
+    file.len() + 32 * ITEM_LIMIT + 140
 }
 
 /// Moves every gain back by the stored undo item, and gives the file without mp3gain's eight keys. ReplayGain items that were there before
@@ -830,20 +857,86 @@ pub fn shift_stored_value(key: &[u8], value: &[u8], steps: i32) -> Option<String
     (moved == 1).then(|| String::from_utf8_lossy(&text.unwrap()).into_owned())
 }
 
+/// What a level slip asks for: steps for either side, and the mode, if it names one. [`resolve_mode`] says what a slip without a mode means
+/// for a file.
+#[derive(Clone, Copy, Debug, PartialEq, Eq)]
+pub struct Slip {
+    pub left: i32,
+    pub right: i32,
+    pub mode: Option<Mode>,
+}
+
 /// Reads a level slip: the lines `left=` and `right=`, each with a number, and if wanted `mode=W` or `mode=N`, each ended by LF.
 ///
 /// ```
-/// use zibrunnos::{parse_slip, Mode, Refusal, Steps};
+/// use zibrunnos::{parse_slip, Mode, Refusal, Slip};
 ///
-/// assert_eq!(parse_slip(b"left=-3\nright=+4\nmode=W\n"), Ok(Steps { left: -3, right: 4, mode: Mode::Wrapping }));
+/// assert_eq!(parse_slip(b"left=-3\nright=+4\nmode=W\n"), Ok(Slip { left: -3, right: 4, mode: Some(Mode::Wrapping) }));
+/// assert_eq!(parse_slip(b"left=-3\nright=+4\n"), Ok(Slip { left: -3, right: 4, mode: None }));
 /// assert_eq!(parse_slip(b"left=256\nright=0\n"), Err(Refusal::StepOutOfRange));
 /// assert_eq!(parse_slip(b"right=0\nleft=1\n"), Err(Refusal::MalformedSlip));
 /// ```
-pub fn parse_slip(text: &[u8]) -> Result<Steps> {
-    let (mut left, mut right, mut wrap) = (0, 0, 0);
+pub fn parse_slip(text: &[u8]) -> Result<Slip> {
+    let (mut left, mut right, mut mode) = (0, 0, 0);
     // SAFETY: a slice by its pointer and length.
-    let reply = unsafe { raw::zib_parse_slip(text.as_ptr(), text.len(), &mut left, &mut right, &mut wrap) };
-    done(reply, Steps { left, right, mode: Mode::of(wrap) })
+    let reply = unsafe { raw::zib_parse_slip(text.as_ptr(), text.len(), &mut left, &mut right, &mut mode) };
+    done(reply, Slip { left, right, mode: (mode != UNNAMED).then(|| Mode::of(mode)) })
+}
+
+/// The number of a slip's mode where it names none.
+const UNNAMED: u32 = 2;
+
+/// What the mode of a slip means for a file: a named one itself; else the flag of the file's undo item, and W where it has none.
+///
+/// ```
+/// use zibrunnos::{level, resolve_mode, Mode};
+///
+/// assert_eq!(resolve_mode(b"audio", None), Mode::Wrapping);
+/// let held = level(b"audio", &mut [120], &mut [], 2, 2, Mode::Saturating)?;
+/// assert_eq!(resolve_mode(&held.file, None), Mode::Saturating);
+/// assert_eq!(resolve_mode(&held.file, Some(Mode::Wrapping)), Mode::Wrapping);
+/// # Ok::<(), zibrunnos::Refusal>(())
+/// ```
+pub fn resolve_mode(file: &[u8], mode: Option<Mode>) -> Mode {
+    let number = mode.map_or(UNNAMED, |mode| mode.wraps() as u32);
+    let mut resolved = 0;
+    // SAFETY: a slice by its pointer and length. A mode's number is never refused.
+    unsafe { raw::zib_resolve_mode(file.as_ptr(), file.len(), number, &mut resolved) };
+    Mode::of(resolved)
+}
+
+/// [`level`] as a slip asks: by its steps, and by its mode as [`resolve_mode`] says.
+///
+/// ```
+/// use zibrunnos::{level_by_slip, list_tag, Refusal};
+///
+/// let (mut left, mut right) = ([254], []);
+/// let once = level_by_slip(b"left=3\nright=3\n", b"audio", &mut left, &mut right)?;
+/// assert_eq!((left, list_tag(&once.file)), ([1], "items=2\nMP3GAIN_UNDO=-003,-003,W\nMP3GAIN_MINMAX=001,001\n".to_string()));
+/// let other = level_by_slip(b"left=3\nright=3\nmode=N\n", &once.file, &mut left, &mut right);
+/// assert_eq!(other, Err(Refusal::FlagDiffers));
+/// # Ok::<(), zibrunnos::Refusal>(())
+/// ```
+pub fn level_by_slip(slip: &[u8], file: &[u8], left: &mut [u8], right: &mut [u8]) -> Result<Levelled> {
+    let mut peaks = 0;
+    // SAFETY: as in `level`.
+    let file = filled(level_room(file), |out, room, written| unsafe {
+        raw::zib_level_by_slip(
+            slip.as_ptr(),
+            slip.len(),
+            file.as_ptr(),
+            file.len(),
+            left.as_mut_ptr(),
+            left.len(),
+            right.as_mut_ptr(),
+            right.len(),
+            out,
+            room,
+            written,
+            &mut peaks,
+        )
+    })?;
+    Ok(Levelled { file, peaks })
 }
 
 #[cfg(test)]
@@ -852,7 +945,7 @@ mod tests {
 
     #[test]
     fn every_refusal_has_its_number() {
-        for number in 1..=13 {
+        for number in 1..=14 {
             assert_eq!(Refusal::of(number).number(), number);
             assert!(!Refusal::of(number).to_string().is_empty());
         }

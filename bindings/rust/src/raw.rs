@@ -47,7 +47,22 @@ extern "C" {
         out_len: usize,
         written: *mut usize,
     ) -> u32;
-    pub fn zib_parse_slip(text: *const u8, text_len: usize, left: *mut i32, right: *mut i32, wrap: *mut u32) -> u32;
+    pub fn zib_parse_slip(text: *const u8, text_len: usize, left: *mut i32, right: *mut i32, mode: *mut u32) -> u32;
+    pub fn zib_resolve_mode(file: *const u8, file_len: usize, mode: u32, resolved: *mut u32) -> u32;
+    pub fn zib_level_by_slip(
+        slip: *const u8,
+        slip_len: usize,
+        file: *const u8,
+        file_len: usize,
+        left: *mut u8,
+        left_len: usize,
+        right: *mut u8,
+        right_len: usize,
+        out: *mut u8,
+        out_len: usize,
+        written: *mut usize,
+        peaks: *mut usize,
+    ) -> u32;
 
     pub fn zib_is_key(key: *const u8, key_len: usize) -> bool;
     pub fn zib_which_key(key: *const u8, key_len: usize) -> usize;
@@ -71,6 +86,7 @@ extern "C" {
         there: *mut u32,
         start: *mut usize,
         size: *mut usize,
+        repeated: *mut u32,
     ) -> u32;
     pub fn zib_get_undo_gain(area: *const u8, area_len: usize, count: usize, there: *mut u32, steps: *mut i32) -> u32;
     pub fn zib_set(

@@ -28,6 +28,7 @@ pub fn get_undo_gain(area: &[u8], count: usize) -> UndoGain
         Found::Value {
             start: _,
             length: _,
+            repeated: _,
         } => {
             let text = items::value(area, f);
             let undo = values::parse_undo_values(text);

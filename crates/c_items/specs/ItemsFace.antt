@@ -1,5 +1,6 @@
 -- What the faces that read a key or an area answer and leave in their lent numbers. A refusal leaves them.
 use Prim.Native.Nat.{ℕ}
+use mathlib.Core.Bool.{Bool, true, false}
 use lib.IntN.{ℤ, pos}
 use Rattle.replies.specs.Refusal.{numberOf}
 use Rattle.replies.specs.declared.Refusal.the-variants.{MalformedArea}
@@ -34,18 +35,24 @@ itemFace End there flags ks ke vs ve = record { reply = 0; there = 0; flags = 0;
 itemFace Malformed there flags ks ke vs ve =
     record { reply = numberOf MalformedArea; there = there; flags = flags; keyStart = ks; keyEnd = ke; valueStart = vs; valueEnd = ve }
 
--- get: the reply, whether a value is there, where it starts, and how long it is
+-- get: the reply, whether a value is there, where it starts, how long it is, and whether a later item has the key too
 pub record FoundFace : Type 0 where
   pub reply : ℕ
   pub there : ℕ
   pub start : ℕ
   pub size : ℕ
+  pub repeated : ℕ
+
+-- 1 or 0
+abbrev pub oneIf : Bool → ℕ
+oneIf true = 1
+oneIf false = 0
 
 -- from the answer of get, and what the lent numbers held
-abbrev pub foundFace : Found → ℕ → ℕ → ℕ → FoundFace
-foundFace (Value at n) there start size = record { reply = 0; there = 1; start = at; size = n }
-foundFace Nothing there start size = record { reply = 0; there = 0; start = 0; size = 0 }
-foundFace (NotFound r) there start size = record { reply = numberOf r; there = there; start = start; size = size }
+abbrev pub foundFace : Found → ℕ → ℕ → ℕ → ℕ → FoundFace
+foundFace (Value at n g) there start size repeated = record { reply = 0; there = 1; start = at; size = n; repeated = oneIf g }
+foundFace Nothing there start size repeated = record { reply = 0; there = 0; start = 0; size = 0; repeated = 0 }
+foundFace (NotFound r) there start size repeated = record { reply = numberOf r; there = there; start = start; size = size; repeated = repeated }
 
 -- the undo steps: the reply, whether they are there, and the number
 pub record GainFace : Type 0 where

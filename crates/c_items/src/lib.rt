@@ -3,7 +3,7 @@ ghost use mathlib.Core.Path.{_≡_};
 ghost use Rattle.keys.specs.Keys.{isKey, whichKey, whichIs};
 ghost use Rattle.items.specs.Answers.{stepOf, findOf};
 ghost use Rattle.area_values.specs.Undo.{undoGainOf};
-ghost use Rattle.c_items.specs.ItemsFace.{placeFace, itemFace, foundFace, gainFace};
+ghost use Rattle.c_items.specs.ItemsFace.{placeFace, itemFace, foundFace, gainFace, oneIf};
 use area_values::UndoGain;
 use items::Found;
 use items::Stepped;
@@ -78,33 +78,47 @@ pub extern "C" fn zib_item_at(
     }
 }
 
+// 1 or 0.
+fn one_if(yes: bool) -> u32
+    ensures { λ r. ⌜ r ≡ oneIf yes ⌝ }
+{
+    if yes {
+        return 1;
+    }
+    0
+}
+
 // The reply to get, and what it found into the lent numbers.
-fn found(f: Found, there: &mut u32, start: &mut usize, size: &mut usize) -> u32
-    ensures { λ r. ⌜ (let face = foundFace f (now (there .entry)) (now (start .entry)) (now (size .entry)) in
-        (r ≡ face .reply) × (now (there .exit) ≡ face .there) × (now (start .exit) ≡ face .start) × (now (size .exit) ≡ face .size)) ⌝ }
+fn found(f: Found, there: &mut u32, start: &mut usize, size: &mut usize, repeated: &mut u32) -> u32
+    ensures { λ r. ⌜ (let face = foundFace f (now (there .entry)) (now (start .entry)) (now (size .entry)) (now (repeated .entry)) in
+        (r ≡ face .reply) × (now (there .exit) ≡ face .there) × (now (start .exit) ≡ face .start) × (now (size .exit) ≡ face .size)
+        × (now (repeated .exit) ≡ face .repeated)) ⌝ }
 {
     match f {
         Found::Value {
             start: at,
             length: n,
+            repeated: later,
         } => {
             *there = 1;
             *start = at;
             *size = n;
+            *repeated = one_if(later);
             0
         }
         Found::Nothing => {
             *there = 0;
             *start = 0;
             *size = 0;
+            *repeated = 0;
             0
         }
         Found::Refused(r) => replies::number(r),
     }
 }
 
-// The value of the first item with this key, as a part of the area: `there` is 1, with the value's start and size, or all three are 0
-// where no item has the key. Refusals 12 and 3.
+// The value of the first item with this key, as a part of the area: `there` is 1, with the value's start and size, and `repeated` is 1 where a
+// later item has the key too; all four are 0 where no item has it. Refusals 12 and 3.
 #[no_mangle]
 pub extern "C" fn zib_get(
     area: &[u8],
@@ -113,15 +127,18 @@ pub extern "C" fn zib_get(
     there: &mut u32,
     start: &mut usize,
     size: &mut usize,
+    repeated: &mut u32,
 ) -> u32
-    ensures { λ r. ⌜ (let face = foundFace (findOf (now (area .entry)) count (now (key .entry))) (now (there .entry)) (now (start .entry)) (now (size .entry)) in
-        (r ≡ face .reply) × (now (there .exit) ≡ face .there) × (now (start .exit) ≡ face .start) × (now (size .exit) ≡ face .size)) ⌝ }
+    ensures { λ r. ⌜ (let face = foundFace (findOf (now (area .entry)) count (now (key .entry))) (now (there .entry)) (now (start .entry)) (now (size .entry)) (now (repeated .entry)) in
+        (r ≡ face .reply) × (now (there .exit) ≡ face .there) × (now (start .exit) ≡ face .start) × (now (size .exit) ≡ face .size)
+        × (now (repeated .exit) ≡ face .repeated)) ⌝ }
 {
     let f = items::find(area, count, key);
-    found(f, there, start, size)
+    found(f, there, start, size, repeated)
 }
 
-// The left number of the first undo item: `there` is 1 and `steps` the number, or both are 0 where there is none. Refusal 12.
+// The left number of the first undo item: `there` is 1 and `steps` the number, or both are 0 where there is none. It takes no notice of a
+// second one. Refusal 12.
 #[no_mangle]
 pub extern "C" fn zib_get_undo_gain(
     area: &[u8],

@@ -15,7 +15,7 @@ use frame::GainSteps;
 use level::LevelAnswer;
 
 // Puts what was done into the lent numbers. The reply is 0, or the number of the refusal.
-fn put_answer(w: LevelAnswer, written: &mut usize, peaks: &mut usize) -> u32
+pub fn put_answer(w: LevelAnswer, written: &mut usize, peaks: &mut usize) -> u32
     ensures { λ r. ⌜ (let face = levelFace w (now (written .entry)) (now (peaks .entry)) in
         (r ≡ face .reply) × (now (written .exit) ≡ face .written) × (now (peaks .exit) ≡ face .peaks)) ⌝ }
 {
@@ -33,7 +33,7 @@ fn put_answer(w: LevelAnswer, written: &mut usize, peaks: &mut usize) -> u32
 }
 
 // Every gain moved by its side's steps, under W if `wrap`, and the file with the items that say so written to the front of `out`, its length into
-// `written` and the number of its peak items into `peaks`. Refusals 1, 2, 7, 8, 9, 11, 6 and 5.
+// `written` and the number of its peak items into `peaks`. Refusals 1, 2, 7, 8, 14, 9, 11, 6 and 5.
 #[no_mangle]
 pub extern "C" fn zib_level(
     file: &[u8],
@@ -67,7 +67,7 @@ pub extern "C" fn zib_level(
 }
 
 // Every gain moved back by the stored undo, and the file without the eight keys written to the front of `out`, its length into `written` and the
-// number of its peak items into `peaks`. Refusals 1, 7, 8, 10 and 5.
+// number of its peak items into `peaks`. Refusals 1, 7, 8, 14, 10 and 5.
 #[no_mangle]
 pub extern "C" fn zib_undo(
     file: &[u8],

@@ -1,16 +1,11 @@
--- What the faces of crates values and slip answer and leave in what they are lent.
+-- What the faces of crate values answer and leave in what they are lent.
 use Prim.Native.Nat.{ℕ}
 use mathlib.Core.Bool.{Bool, true, false, cond}
 use mathlib.Core.Option.{Option, none, some}
 use mathlib.Core.List.{List}
 use lib.ListN.{length}
 use lib.Dec.{leb, eqb}
-use lib.IntN.{ℤ}
 use Rattle.lists.specs.Write.{over}
-use Rattle.replies.specs.Refusal.{numberOf}
-use Rattle.frame.specs.declared.GainMode.{GainMode}
-use Rattle.frame.specs.declared.GainMode.the-variants.{Saturating, Wrapping}
-use Rattle.slip.specs.declared.Slip as s
 
 -- yes is 1
 abbrev pub flag : Bool → ℕ
@@ -42,20 +37,3 @@ movedFace t moved = record { reply = t .reply; moved = cond (eqb (t .reply) 0) 1
 abbrev pub shiftFace : Option (List ℕ) → List ℕ → ℕ → ℕ → ShiftFace
 shiftFace none out moved written = record { reply = 0; moved = 0; written = 0; out = out }
 shiftFace (some w) out moved written = movedFace (textFace w out written) moved
-
--- a slip read: the reply, the steps of either side, and whether they wrap
-pub record SlipFace : Type 0 where
-  pub reply : ℕ
-  pub left : ℤ
-  pub right : ℤ
-  pub wrap : ℕ
-
--- does the mode wrap?
-abbrev pub wraps : GainMode → ℕ
-wraps Saturating = 0
-wraps Wrapping = 1
-
--- a refusal leaves the lent numbers
-abbrev pub slipFace : s.Slip → ℤ → ℤ → ℕ → SlipFace
-slipFace (s.the-variants.Steps w) left right wrap = record { reply = 0; left = w .left .0; right = w .right .0; wrap = wraps (w .mode) }
-slipFace (s.the-variants.Refused r) left right wrap = record { reply = numberOf r; left = left; right = right; wrap = wrap }

@@ -1,17 +1,14 @@
-// The faces of crates values and slip, and of the steps of crate decibels.
+// The faces of crate values, and of the steps of crate decibels.
 ghost use mathlib.Core.Path.{_≡_};
 ghost use Prim.Native.Nat.{_≤_};
 ghost use lib.ListN.{length, take};
 ghost use Rattle.values.specs.Undo.{parseUndo, undoWraps, formatUndo, accumulated};
 ghost use Rattle.values.specs.Range.{formatRange};
 ghost use Rattle.values.specs.Stored.{rangeWrapsOut, shiftStored};
-ghost use Rattle.slip.specs.Slip.{readSlip};
 ghost use Rattle.decibels.specs.Gain.{stepsToDb};
-ghost use Rattle.c_values.specs.ValuesFace.{flag, wraps, textFace, shiftFace, slipFace};
+ghost use Rattle.c_values.specs.ValuesFace.{flag, textFace, shiftFace};
 use decimal::Text;
-use frame::GainMode;
 use frame::GainSteps;
-use slip::Slip;
 
 // A flag as a number.
 fn flag_number(yes: bool) -> u32
@@ -21,16 +18,6 @@ fn flag_number(yes: bool) -> u32
         return 1;
     }
     0
-}
-
-// A mode as a number.
-fn mode_number(mode: GainMode) -> u32
-    ensures { λ r. ⌜ r ≡ wraps mode ⌝ }
-{
-    match mode {
-        GainMode::Saturating => 0,
-        GainMode::Wrapping => 1,
-    }
 }
 
 // Writes a text at the front of `out`, and its length into `written`. Refusal 5.
@@ -174,32 +161,4 @@ pub extern "C" fn zib_shift_stored_value(
         *moved = 1;
     }
     reply
-}
-
-// Reads a level slip: the steps of either side, and whether they wrap. Refusals 13 and 2.
-#[no_mangle]
-pub extern "C" fn zib_parse_slip(
-    text: &[u8],
-    left: &mut i32,
-    right: &mut i32,
-    wrap: &mut u32,
-) -> u32
-    ensures { λ r. ⌜ (let face = slipFace (readSlip (now (text .entry))) (now (left .entry)) (now (right .entry)) (now (wrap .entry)) in
-        (r ≡ face .reply) × (now (left .exit) ≡ face .left) × (now (right .exit) ≡ face .right) × (now (wrap .exit) ≡ face .wrap)) ⌝ }
-{
-    let s = slip::parse_slip(text);
-    match s {
-        Slip::Steps(wish) => {
-            let a = wish.left;
-            let b = wish.right;
-            let l = a.0;
-            let r = b.0;
-            *left = l;
-            *right = r;
-            let mode = wish.mode;
-            *wrap = mode_number(mode);
-            0
-        }
-        Slip::Refused(r) => replies::number(r),
-    }
 }

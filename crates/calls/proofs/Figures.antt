@@ -14,14 +14,15 @@ use Rattle.frame.specs.Gain.{adjust}
 use Rattle.frame.specs.Tail.{standsAt, startOf, tagStart}
 use Rattle.utf8.specs.Utf8.{numberOf, classAt, run, stepOf, validFrom, valid}
 use Rattle.lossy.specs.Lossy.{lossyFrom, lossy}
-use Rattle.items.specs.Items.{itemBytes, areaBytes, headAt, head, parse, getItem, setItem, without}
+use Rattle.slip.specs.Slip.{stepText, stepLine, modeLine, linesForm, slipForm}
+use Rattle.items.specs.Items.{itemBytes, areaBytes, headAt, head, parse, getItem, setItem, without, countOf}
 use Rattle.ape.specs.Tag.{blockBytes, tagBytes, serialize, findFooter, areaAt, readValue, readItems, readTag, moved, split, fileOf, replaced}
 use Rattle.calls.specs.Gate.{headerAt, fit, itemValid, allValid, gateItems, passesGate, itemsOf, tagFits}
-use Rattle.calls.specs.Calls.{setPlan, removePlan, staying, shiftItem, shiftStoredGain, storedUndo, booked, least, greatest, shiftedItems, levelItems, countOf, isPeakKey, levelPlan, others, undoPlan}
+use Rattle.calls.specs.Calls.{setPlan, removePlan, staying, shiftItem, shiftStoredGain, storedUndo, resolved, booked, least, greatest, shiftedItems, levelItems, isPeakKey, levelPlan, slipPlan, others, undoPlan}
 use Rattle.calls.specs.Figures.{Figures, Examples}
 
 pub figures : Figures
-unfolding all same startsWith placeOf upper upperAll sameKey whichOf keys whichKey isFrom undoKey minmaxKey before behind field isDigit digitsFrom natural isMinus unsigned whole i32 u8 isSpace trimLeft keep trimRight trim places decimal signed remaining nearest fraction millionths parseGain formatGain shiftGain formatRange parseRange shiftRange leaves wrapsOut kindOf rangeWrapsOut shiftStored formatUndo parseUndo undoWraps accumulated adjust standsAt startOf tagStart numberOf classAt run stepOf lossyFrom lossy validFrom valid itemBytes areaBytes headAt head parse getItem setItem without blockBytes tagBytes serialize findFooter areaAt moved split fileOf replaced headerAt fit itemValid allValid gateItems passesGate itemsOf tagFits staying shiftItem shiftStoredGain storedUndo booked least greatest shiftedItems levelItems countOf isPeakKey levelPlan others undoPlan
+unfolding all same startsWith placeOf upper upperAll sameKey whichOf keys whichKey isFrom undoKey minmaxKey before behind field isDigit digitsFrom natural isMinus unsigned whole i32 u8 isSpace trimLeft keep trimRight trim places decimal signed remaining nearest fraction millionths parseGain formatGain shiftGain formatRange parseRange shiftRange leaves wrapsOut kindOf rangeWrapsOut shiftStored formatUndo parseUndo undoWraps accumulated adjust standsAt startOf tagStart numberOf classAt run stepOf lossyFrom lossy validFrom valid itemBytes areaBytes headAt head parse getItem setItem without blockBytes tagBytes serialize findFooter areaAt moved split fileOf replaced headerAt fit itemValid allValid gateItems passesGate itemsOf tagFits staying shiftItem shiftStoredGain storedUndo resolved booked least greatest shiftedItems levelItems countOf isPeakKey levelPlan slipPlan stepText stepLine modeLine linesForm slipForm others undoPlan
 figures = record {
   undo-n = refl;
   undo-w = refl;
@@ -52,7 +53,7 @@ figures = record {
 }
 
 pub examples : Examples
-unfolding all same startsWith placeOf upper upperAll sameKey whichOf keys whichKey isFrom undoKey minmaxKey isReserved isKey before behind field isDigit digitsFrom natural isMinus unsigned whole i32 u8 isSpace trimLeft keep trimRight trim places decimal signed remaining nearest fraction millionths parseGain formatGain shiftGain formatRange parseRange shiftRange leaves wrapsOut kindOf rangeWrapsOut shiftStored formatUndo parseUndo undoWraps accumulated adjust standsAt startOf tagStart numberOf classAt run stepOf lossyFrom lossy validFrom valid itemBytes areaBytes headAt head parse getItem setItem without blockBytes tagBytes serialize findFooter areaAt readValue readItems readTag moved split fileOf replaced headerAt fit itemValid allValid gateItems passesGate itemsOf tagFits setPlan removePlan staying shiftItem shiftStoredGain storedUndo booked least greatest shiftedItems levelItems countOf isPeakKey levelPlan others undoPlan
+unfolding all same startsWith placeOf upper upperAll sameKey whichOf keys whichKey isFrom undoKey minmaxKey isReserved isKey before behind field isDigit digitsFrom natural isMinus unsigned whole i32 u8 isSpace trimLeft keep trimRight trim places decimal signed remaining nearest fraction millionths parseGain formatGain shiftGain formatRange parseRange shiftRange leaves wrapsOut kindOf rangeWrapsOut shiftStored formatUndo parseUndo undoWraps accumulated adjust standsAt startOf tagStart numberOf classAt run stepOf lossyFrom lossy validFrom valid itemBytes areaBytes headAt head parse getItem setItem without blockBytes tagBytes serialize findFooter areaAt readValue readItems readTag moved split fileOf replaced headerAt fit itemValid allValid gateItems passesGate itemsOf tagFits setPlan removePlan staying shiftItem shiftStoredGain storedUndo resolved booked least greatest shiftedItems levelItems countOf isPeakKey levelPlan slipPlan stepText stepLine modeLine linesForm slipForm others undoPlan
 examples = record {
   two = refl;
   three = refl;
@@ -92,11 +93,23 @@ examples = record {
   nine = refl;
   ten = refl;
   eleven = refl;
+  fourteen = refl;
+  fourteen-undo = refl;
+  fourteen-not = refl;
   two-first = refl;
   seven-first = refl;
   nine-first = refl;
   again = refl;
   out-again = refl;
   unequal = refl;
+  unnamed-n = refl;
+  unnamed-w = refl;
+  unnamed-junk = refl;
+  named = refl;
+  thirteen = refl;
+  slip-two = refl;
+  slip-unnamed = refl;
+  slip-stored = refl;
+  slip-nine = refl;
   junk = refl;
 }

@@ -1,5 +1,5 @@
 -- Laws of the items that calls leave: what they make of other keys, and that they stay good.
-use Prim.Native.Nat.{ℕ, _+_}
+use Prim.Native.Nat.{ℕ, _+_, _≤_}
 use native.Mathlib.Omega.{arith}
 use mathlib.Core.Path.{_≡_, refl, sym, ap, _∙_}
 use mathlib.Core.Bool.{Bool, true, false, cond, true≢false}
@@ -14,16 +14,16 @@ use Rattle.frame.specs.declared.GainMode.{GainMode}
 use Rattle.frame.specs.declared.GainMode.the-variants.{Saturating, Wrapping}
 use Rattle.utf8.specs.Utf8.{valid}
 use Rattle.keys.specs.Keys.{upper, upperAll, sameKey, whichKey, isFrom, isMp3gainKey, isUndone, undoKey, minmaxKey, printable}
-use Rattle.keys.proofs.Keys.{key-sym, from-caseless, undone-eight, undo-eight, not-undo, printable-whole}
+use Rattle.keys.proofs.Keys.{key-sym, same-caseless, from-caseless, undone-eight, undo-eight, not-undo, printable-whole}
 use Rattle.values.specs.Stored.{kindOf, wrapsOutBy, rangeWrapsOut, shiftStored}
 use Rattle.values.specs.declared.Kind.the-variants.{Other}
 use Rattle.values.proofs.ReadBack.{plain-undo, plain-range}
 use Rattle.values.proofs.Texts.{stored-short}
-use Rattle.items.specs.Items.{Item, typeOf, isBinary, asText, getItem, withValue, setItem, without}
+use Rattle.items.specs.Items.{Item, typeOf, isBinary, asText, getItem, withValue, setItem, without, countOf}
 use Rattle.items.proofs.Area.{Sane, AllSane}
-use Rattle.items.proofs.ItemLaws.{FlagsSane, set-inside, without-less, sane-without, sane-set}
+use Rattle.items.proofs.ItemLaws.{FlagsSane, count-kept, count-outside, count-set-once, set-inside, without-less, sane-without, sane-set}
 use Rattle.calls.specs.Gate.{flagsFit, itemValid, allValid}
-use Rattle.calls.specs.Calls.{Level, staying, shiftItem, shiftStoredGain, booked, wraps, rangeOf, sameStep, shiftedItems, levelItems, countOf, others}
+use Rattle.calls.specs.Calls.{Level, staying, shiftItem, shiftStoredGain, booked, wraps, rangeOf, sameStep, shiftedItems, levelItems, others}
 use Rattle.calls.proofs.Lists.{both, and-of, or-of}
 use Rattle.calls.proofs.Texts.{plain-valid}
 
@@ -45,6 +45,14 @@ not-by-undo key n = go (sameKey undoKey key) refl
     go : (b : Bool) → sameKey undoKey key ≡ b → sameKey undoKey key ≡ false
     go true e = absurd (true≢false (sym (key-sym undoKey key e) ∙ not-undo key n))
     go false e = e
+
+-- an undo item is one of the eight
+pub by-undo : (key : List ℕ) → sameKey undoKey key ≡ true → isMp3gainKey key ≡ true
+by-undo key e = go (isMp3gainKey key) refl
+  where
+    go : (b : Bool) → isMp3gainKey key ≡ b → isMp3gainKey key ≡ true
+    go true q = q
+    go false q = absurd (true≢false (sym e ∙ not-by-undo key q))
 
 pub none-got : (ts : List Item) → countOf isMp3gainKey ts ≡ 0 → getItem undoKey ts ≡ none
 unfolding countOf getItem
@@ -215,6 +223,38 @@ shift-sane m z ts s = map-sane z (staying m z ts) (staying-sane m z ts s)
 pub key-facts : (sameKey undoKey minmaxKey ≡ false) × (all printable (upperAll undoKey) ≡ true) × (all printable (upperAll minmaxKey) ≡ true)
 unfolding sameKey same upperAll upper undoKey minmaxKey all
 key-facts = (refl, refl, refl)
+
+-- ---- no item comes twice
+
+module _ (p : List ℕ → Bool) where
+  map-count : (z : ℤ) (ts : List Item) → countOf p (map (shiftItem z) ts) ≡ countOf p ts
+  unfolding countOf
+  map-count z [] = refl
+  map-count z (t ∷ ts) = rw (shift-key z t, map-count z ts)
+
+  staying-count : (m : GainMode) (z : ℤ) (ts : List Item) → countOf p (staying m z ts) ≤ countOf p ts
+  unfolding staying countOf
+  staying-count Saturating z ts = omega arith
+  staying-count Wrapping z [] = omega arith
+  staying-count Wrapping z (t ∷ ts) = go (rangeWrapsOut (t .key) (t .value) z) (staying-count Wrapping z ts)
+    where
+      go : (a : Bool) → countOf p (staying Wrapping z ts) ≤ countOf p ts → countOf p (cond a (staying Wrapping z ts) (t ∷ staying Wrapping z ts)) ≤ cond (p (t .key)) 1 0 + countOf p ts
+      go true ih = omega arith
+      go false ih = omega arith
+
+  shifted-count : (l : Level) (ts : List Item) → countOf p (shiftedItems l ts) ≤ countOf p ts
+  unfolding shiftedItems shiftStoredGain
+  shifted-count l ts = go (sameStep (l .left) (l .right)) refl
+    where
+      go : (a : Bool) → sameStep (l .left) (l .right) ≡ a → countOf p (shiftedItems l ts) ≤ countOf p ts
+      go true e = rw e (omega (arith, map-count (l .left) (staying (l .mode) (l .left) ts), staying-count (l .mode) (l .left) ts))
+      go false e = rw e (count-kept p isUndone ts)
+
+pub level-once : (l : Level) (ts : List Item) (gs : List ℕ) → countOf (sameKey undoKey) ts ≤ 1 → countOf (sameKey undoKey) (levelItems l ts gs) ≤ 1
+unfolding levelItems
+level-once l ts gs h =
+    rw (count-outside (sameKey undoKey) (same-caseless undoKey) minmaxKey _ (key-facts .0) _)
+    (count-set-once undoKey _ (shiftedItems l ts) (omega (arith, shifted-count (sameKey undoKey) l ts)))
 
 module _ (l : Level) (ts : List Item) where
   shifted-others : others (shiftedItems l ts) ≡ others ts

@@ -4,3 +4,4 @@ pub mod Texts
 pub mod Items
 pub mod Plain
 pub mod Figures
+pub mod Slips

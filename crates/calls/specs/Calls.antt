@@ -7,7 +7,7 @@ use lib.Dec.{eqb, ltb}
 use lib.IntN.{ℤ, pos, negsuc}
 use lib.Signed.{mag}
 use Rattle.lists.specs.Choice.{found, isSome}
-use Rattle.replies.specs.Refusal.{Test, need, refusalOf, Plan, planned}
+use Rattle.replies.specs.Refusal.{Test, need, refusalOf, Plan, no, planned}
 use Rattle.replies.specs.declared.Refusal.the-variants.{
   StepOutOfRange,
   BadKey,
@@ -18,6 +18,8 @@ use Rattle.replies.specs.declared.Refusal.the-variants.{
   FlagDiffers,
   NoUndo,
   UndoOutOfRange,
+  MalformedSlip,
+  SecondUndo,
 }
 use Rattle.frame.specs.declared.GainMode.{GainMode}
 use Rattle.frame.specs.declared.GainMode.the-variants.{Saturating, Wrapping}
@@ -29,8 +31,11 @@ use Rattle.values.specs.declared.Range.{Range}
 use Rattle.values.specs.Undo.{formatUndo, parseUndo, undoWraps, accumulated}
 use Rattle.values.specs.Range.{formatRange}
 use Rattle.values.specs.Stored.{rangeWrapsOut, shiftStored}
-use Rattle.slip.specs.Slip.{isStep}
-use Rattle.items.specs.Items.{Item, getItem, withValue, setItem, without, removeItem}
+use Rattle.slip.specs.declared.SlipMode.{SlipMode}
+use Rattle.slip.specs.declared.SlipMode.the-variants.{Named, Unnamed}
+use Rattle.slip.specs.declared.Wish.{Wish}
+use Rattle.slip.specs.Slip.{isStep, slipForm}
+use Rattle.items.specs.Items.{Item, getItem, withValue, setItem, without, removeItem, countOf, isRepeated}
 use Rattle.ape.specs.Tag.{replaced}
 use Rattle.ape.specs.Answers.{lentFits, roomFor}
 use Rattle.calls.specs.Gate.{passesGate, itemsOf, tagFits}
@@ -99,10 +104,19 @@ shiftStoredGain m steps ts = map (shiftItem steps) (staying m steps ts)
 unfoldable pub storedUndo : List Item → Option (List ℕ)
 storedUndo ts = getItem undoKey ts
 
+-- refusal 14: not more than one undo item
+abbrev pub undoOnce : List Item → Bool
+undoOnce ts = not (isRepeated undoKey ts)
+
 -- refusal 9: the flag of a stored undo text is the call's
 abbrev pub agrees : GainMode → List ℕ → Bool
 agrees Saturating s = not (undoWraps s)
 agrees Wrapping s = undoWraps s
+
+-- the mode of a slip: what it names, or else the stored flag, and W where there is no undo item
+unfoldable pub resolved : SlipMode → List Item → GainMode
+resolved (Named m) ts = m
+resolved Unnamed ts = found (storedUndo ts) Wrapping (λ s. modeOf (undoWraps s))
 
 -- the undo numbers that level stores: nothing stored reads as the empty text
 unfoldable pub booked : Level → List Item → UndoValues
@@ -152,11 +166,6 @@ levelItems l ts gs =
     let u = booked l ts in
     setItem minmaxKey (formatRange (rangeOf gs)) (setItem undoKey (formatUndo (u .left) (u .right) (wraps (l .mode))) (shiftedItems l ts))
 
--- how many items have a key that passes the test
-unfoldable pub countOf : (List ℕ → Bool) → List Item → ℕ
-countOf p [] = 0
-countOf p (t ∷ ts) = cond (p (t .key)) 1 0 + countOf p ts
-
 -- REPLAYGAIN_TRACK_PEAK and REPLAYGAIN_ALBUM_PEAK, by their places among the eight keys
 unfoldable pub isPeakKey : List ℕ → Bool
 isPeakKey key = found (whichKey key) false (λ i. eqb i 4 || eqb i 6)
@@ -180,10 +189,11 @@ numbersFit u = isUndoNumber (u .left) && isUndoNumber (u .right)
 abbrev pub newItems : List ℕ → List ℕ → List ℕ → Level → List Item
 newItems file left right l = levelItems l (itemsOf file) (adjusted (l .mode) (l .left) left ++ adjusted (l .mode) (l .right) right)
 
--- refusals 1, 2, 7, 8, 9, 11, 6, 5
+-- refusals 1, 2, 7, 8, 14, 9, 11, 6, 5
 abbrev pub levelTests : List ℕ → List ℕ → List ℕ → Level → ℕ → List Test
 levelTests file left right l room =
     lentFits file ∷ need StepOutOfRange (stepsFit l) ∷ need NoLeftGains (isThere left) ∷ need NotEditable (passesGate file)
+    ∷ need SecondUndo (undoOnce (itemsOf file))
     ∷ need FlagDiffers (found (storedUndo (itemsOf file)) true (agrees (l .mode))) ∷ need UndoOutOfRange (numbersFit (booked l (itemsOf file)))
     ∷ need TagTooLarge (tagFits (newItems file left right l)) ∷ roomFor room (replaced file (newItems file left right l)) ∷ []
 
@@ -200,6 +210,14 @@ levelGives file left right l = record {
 unfoldable pub levelPlan : List ℕ → List ℕ → List ℕ → Level → ℕ → Plan Levelled
 levelPlan file left right l room = planned (refusalOf (levelTests file left right l room)) (levelGives file left right l)
 
+-- what a slip asks level for, of a file
+abbrev pub asked : Wish → List ℕ → Level
+asked w file = record { left = w .left .0; right = w .right .0; mode = resolved (w .mode) (itemsOf file) }
+
+-- level by a slip: refusal 13 for its form, then those of level
+unfoldable pub slipPlan : List ℕ → List ℕ → List ℕ → List ℕ → ℕ → Plan Levelled
+slipPlan slip file left right room = found (slipForm slip) (no MalformedSlip) (λ w. levelPlan file left right (asked w file) room)
+
 -- ---- undo
 
 -- what is left without the eight keys
@@ -214,10 +232,11 @@ undoneLeft text gs = adjusted (modeOf (undoWraps text)) ((parseUndo text) .left)
 abbrev pub undoneRight : List ℕ → List ℕ → List ℕ
 undoneRight text gs = adjusted (modeOf (undoWraps text)) ((parseUndo text) .right) gs
 
--- refusals 1, 7, 8, 10, 5
+-- refusals 1, 7, 8, 14, 10, 5
 abbrev pub undoTests : List ℕ → List ℕ → ℕ → List Test
 undoTests file left room =
-    lentFits file ∷ need NoLeftGains (isThere left) ∷ need NotEditable (passesGate file) ∷ need NoUndo (isSome (storedUndo (itemsOf file)))
+    lentFits file ∷ need NoLeftGains (isThere left) ∷ need NotEditable (passesGate file) ∷ need SecondUndo (undoOnce (itemsOf file))
+    ∷ need NoUndo (isSome (storedUndo (itemsOf file)))
     ∷ roomFor room (replaced file (others (itemsOf file))) ∷ []
 
 -- every gain adjusted by the stored numbers, and the file without the eight keys: no peak item is left

@@ -20,6 +20,8 @@ use Rattle.replies.specs.declared.Refusal.the-variants.{
   FlagDiffers,
   NoUndo,
   UndoOutOfRange,
+  MalformedSlip,
+  SecondUndo,
 }
 use Rattle.frame.specs.declared.GainMode.{GainMode}
 use Rattle.frame.specs.declared.GainMode.the-variants.{Saturating, Wrapping}
@@ -29,9 +31,10 @@ use Rattle.lossy.specs.Lossy.{mark, lossy}
 use Rattle.values.specs.Undo.{formatUndo, parseUndo}
 use Rattle.values.specs.Stored.{shiftStored, rangeWrapsOut}
 use Rattle.decibels.specs.Gain.{shiftGain}
+use Rattle.slip.specs.declared.SlipMode.the-variants.{Named, Unnamed}
 use Rattle.items.specs.Items.{Item, areaBytes, textItem}
 use Rattle.ape.specs.Tag.{headerFlags, footerFlags, sizeAt, serialize, readTag, replaced}
-use Rattle.calls.specs.Calls.{Level, setPlan, removePlan, shiftStoredGain, levelPlan, undoPlan}
+use Rattle.calls.specs.Calls.{Level, setPlan, removePlan, shiftStoredGain, resolved, levelPlan, slipPlan, undoPlan}
 
 -- ---- what the figures are about
 
@@ -125,6 +128,10 @@ version1000 = block 1000 32 0 0
 abbrev pub headedBy : List ℕ → List ℕ
 headedBy header = header ++ (areaBytes ab ++ block 2000 44 1 footerFlags)
 
+-- two undo items
+abbrev pub twice : List Item
+twice = item (ascii "MP3GAIN_UNDO") (ascii "+003,+003,N") ∷ item (ascii "mp3gain_undo") (ascii "+001,+001,N") ∷ []
+
 -- 32 bytes of sound
 abbrev pub sound : List ℕ
 sound = replicate 32 0x55
@@ -203,6 +210,10 @@ pub record Examples : Type 0 where
   pub ten : undoPlan [] (10 ∷ []) [] 1000 ≡ no NoUndo
   -- 11: stored `+32767,+000,N`, left -1
   pub eleven : levelPlan (serialize (undoItem (ascii "+32767,+000,N"))) (10 ∷ []) [] (by (negsuc 0) (pos 0) Saturating) 1000 ≡ no UndoOutOfRange
+  -- 14: a second undo item, in any letter case; it comes before 9 and 10, and behind 8; remove drops both
+  pub fourteen : levelPlan (serialize twice) (10 ∷ []) [] (by (pos 1) (pos 1) Wrapping) 0 ≡ no SecondUndo
+  pub fourteen-undo : undoPlan (serialize twice) (10 ∷ []) [] 0 ≡ no SecondUndo
+  pub fourteen-not : removePlan (serialize twice) (ascii "mp3gain_undo") 1000 ≡ yes []
   -- where several apply: 2 before 7 before 8, and 9 before 11
   pub two-first : levelPlan version1000 [] [] (by (pos 0) (negsuc 255) Wrapping) 0 ≡ no StepOutOfRange
   pub seven-first : undoPlan version1000 [] [] 0 ≡ no NoLeftGains
@@ -227,5 +238,26 @@ pub record Examples : Type 0 where
     right = 6 ∷ [];
     peaks = 0;
   })
+  -- a slip without a mode: the stored flag, W where nothing is stored, and N by a junk text; a written mode is obeyed
+  pub unnamed-n : resolved Unnamed (undoItem (ascii "+003,+003,N")) ≡ Saturating
+  pub unnamed-w : resolved Unnamed [] ≡ Wrapping
+  pub unnamed-junk : resolved Unnamed (undoItem (ascii "junk")) ≡ Saturating
+  pub named : resolved (Named Saturating) (undoItem (ascii "+003,+003,W")) ≡ Saturating
+  -- level by a slip: 13 first; 2 before 7; a slip without a mode wraps where no undo item is, and keeps a stored N; a written N meets 9 in a W file
+  pub thirteen : slipPlan (ascii "left=1\n") version1000 [] [] 0 ≡ no MalformedSlip
+  pub slip-two : slipPlan (ascii "left=256\nright=0\n") version1000 [] [] 0 ≡ no StepOutOfRange
+  pub slip-unnamed : slipPlan (ascii "left=5\nright=5\n") [] (252 ∷ []) [] 1000 ≡ yes (record {
+    out = serialize (levelPair (ascii "-005,-005,W") (ascii "001,001"));
+    left = 1 ∷ [];
+    right = [];
+    peaks = 0;
+  })
+  pub slip-stored : slipPlan (ascii "left=5\nright=5\n") (serialize (undoItem (ascii "+003,+003,N"))) (252 ∷ []) [] 1000 ≡ yes (record {
+    out = serialize (levelPair (ascii "-002,-002,N") (ascii "255,255"));
+    left = 255 ∷ [];
+    right = [];
+    peaks = 0;
+  })
+  pub slip-nine : slipPlan (ascii "left=5\nright=5\nmode=N\n") (serialize (undoItem (ascii "+003,+003,W"))) (252 ∷ []) [] 1000 ≡ no FlagDiffers
   -- undo by a junk text: 0 and 0 under N
   pub junk : undoPlan (serialize (undoItem (ascii "junk"))) (10 ∷ []) [] 1000 ≡ yes (record { out = []; left = 10 ∷ []; right = []; peaks = 0 })

@@ -1,4 +1,4 @@
-// Replays the recorded answers for crates edit, level, undo and area_shift.
+// Replays the recorded answers for crates edit, level, level_slip, undo and area_shift.
 use ape_write::Written;
 use area_edit::Edited;
 use frame::GainMode;
@@ -102,7 +102,28 @@ fn undo(text: &[u8], at: usize) -> bool {
     )
 }
 
-// Whether level answers the five words from this place: those of undo and the number of peak items, 0 where it is refused.
+// Whether an answer is that of the five words from this place: those of undo and the number of peak items, 0 where it is refused.
+fn is_levelled(
+    text: &[u8],
+    at: usize,
+    a: LevelAnswer,
+    out: &[u8],
+    left: &[u8],
+    right: &[u8],
+) -> bool {
+    if !left_behind(text, at, a, out, left, right) {
+        return false;
+    }
+    let n = match a {
+        LevelAnswer::Done { length: _, peaks } => peaks,
+        LevelAnswer::Refused(_) => 0,
+    };
+    let left_after = words::next_word(text, words::next_word(text, at));
+    let peaks_at = words::next_word(text, words::next_word(text, left_after));
+    words::unsigned(text, peaks_at) == n as u64
+}
+
+// Whether level answers the five words from this place.
 fn levelled(
     text: &[u8],
     at: usize,
@@ -115,16 +136,7 @@ fn levelled(
     out: &mut [u8],
 ) -> bool {
     let a = level::level(file, left, right, left_steps, right_steps, mode, out);
-    if !left_behind(text, at, a, out, left, right) {
-        return false;
-    }
-    let n = match a {
-        LevelAnswer::Done { length: _, peaks } => peaks,
-        LevelAnswer::Refused(_) => 0,
-    };
-    let left_after = words::next_word(text, words::next_word(text, at));
-    let peaks_at = words::next_word(text, words::next_word(text, left_after));
-    words::unsigned(text, peaks_at) == n as u64
+    is_levelled(text, at, a, out, left, right)
 }
 
 // `level FILE LEFT RIGHT STEPS STEPS FLAG ROOM REPLY FILE LEFT RIGHT PEAKS`.
@@ -156,6 +168,43 @@ fn level(text: &[u8], at: usize) -> bool {
         GainSteps(words::signed(text, right_steps_at)),
         GainMode::from_wrap(lists::starts_with(text, flag_at, b"W")),
         &mut out[0..room],
+    )
+}
+
+// Whether level by a slip answers the five words from this place.
+fn levelled_by_slip(
+    text: &[u8],
+    at: usize,
+    slip: &[u8],
+    file: &[u8],
+    left: &mut [u8],
+    right: &mut [u8],
+) -> bool {
+    let mut out = [0u8; 4096];
+    let a = level_slip::level_by_slip(slip, file, left, right, &mut out);
+    is_levelled(text, at, a, &out, left, right)
+}
+
+// `by_slip SLIP FILE LEFT RIGHT REPLY FILE LEFT RIGHT PEAKS`.
+fn by_slip(text: &[u8], at: usize) -> bool {
+    let mut slip = [0u8; 64];
+    let m = words::hex_bytes(text, at, &mut slip);
+    let file_at = words::next_word(text, at);
+    let mut file = [0u8; 4096];
+    let n = words::hex_bytes(text, file_at, &mut file);
+    let left_at = words::next_word(text, file_at);
+    let mut left = [0u8; 64];
+    let l = words::hex_bytes(text, left_at, &mut left);
+    let right_at = words::next_word(text, left_at);
+    let mut right = [0u8; 64];
+    let r = words::hex_bytes(text, right_at, &mut right);
+    levelled_by_slip(
+        text,
+        words::next_word(text, right_at),
+        &slip[0..m],
+        &file[0..n],
+        &mut left[0..l],
+        &mut right[0..r],
     )
 }
 
@@ -250,6 +299,9 @@ fn agrees(text: &[u8], at: usize) -> bool {
     }
     if lists::starts_with(text, at, b"level ") {
         return level(text, from);
+    }
+    if lists::starts_with(text, at, b"by_slip ") {
+        return by_slip(text, from);
     }
     if lists::starts_with(text, at, b"shift ") {
         return shift(text, from);

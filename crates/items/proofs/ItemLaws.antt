@@ -12,7 +12,7 @@ use Rattle.lists.specs.Choice.{found}
 use Rattle.lists.proofs.Places.{small-drop}
 use Rattle.keys.specs.Keys.{upperAll, sameKey, isMp3gainKey, isUndone, undoKey, minmaxKey, isKey}
 use Rattle.keys.proofs.Keys.{key-sym, key-upper, length-upper, Caseless, same-caseless, from-caseless, eight-are, printable-whole, printable-upper, key-printable}
-use Rattle.items.specs.Items.{Item, areaBytes, sizeOf, Head, head, parse, itemsIn, getItem, setItem, withValue, newItem, without, removeItem}
+use Rattle.items.specs.Items.{Item, areaBytes, sizeOf, Head, head, parse, itemsIn, getItem, setItem, withValue, newItem, without, removeItem, countOf}
 use Rattle.items.proofs.Area.{Sane, AllSane, whole, length-area}
 
 -- ---- get, set, without
@@ -155,6 +155,62 @@ get-removed key (t ∷ ts) = go (sameKey key (t .key)) refl (get-removed key ts)
     go : (a : Bool) → sameKey key (t .key) ≡ a → getItem key (removeItem key ts) ≡ none → getItem key (removeItem key (t ∷ ts)) ≡ none
     go true e ih = rw e ih
     go false e ih = rw (e, e) ih
+
+-- ---- how many items pass a test
+
+module _ (p : List ℕ → Bool) where
+  pub count-none : countOf p [] ≡ 0
+  unfolding countOf
+  count-none = refl
+
+  pub count-one : (t : Item) (ts : List Item) → p (t .key) ≡ true → countOf p (t ∷ ts) ≡ 1 + countOf p ts
+  unfolding countOf
+  count-one t ts e = rw e
+
+  pub count-next : (t : Item) (ts : List Item) → p (t .key) ≡ false → countOf p (t ∷ ts) ≡ countOf p ts
+  unfolding countOf
+  count-next t ts e = rw e (omega arith)
+
+  -- dropping adds none
+  pub count-kept : (q : List ℕ → Bool) (ts : List Item) → countOf p (without q ts) ≤ countOf p ts
+  unfolding countOf without
+  count-kept q [] = omega arith
+  count-kept q (t ∷ ts) = go (q (t .key)) refl (count-kept q ts)
+    where
+      go : (a : Bool) → q (t .key) ≡ a → countOf p (without q ts) ≤ countOf p ts → countOf p (without q (t ∷ ts)) ≤ cond (p (t .key)) 1 0 + countOf p ts
+      go true e ih = rw e (omega arith)
+      go false e ih = rw e (omega arith)
+
+  -- nor does a test that passes fewer keys
+  pub count-fewer : (q : List ℕ → Bool) → ((k : List ℕ) → q k ≡ true → p k ≡ true) → (ts : List Item) → countOf q ts ≤ countOf p ts
+  unfolding countOf
+  count-fewer q h [] = omega arith
+  count-fewer q h (t ∷ ts) = go (q (t .key)) refl (count-fewer q h ts)
+    where
+      go : (a : Bool) → q (t .key) ≡ a → countOf q ts ≤ countOf p ts → cond (q (t .key)) 1 0 + countOf q ts ≤ cond (p (t .key)) 1 0 + countOf p ts
+      go true e ih = rw (e, h (t .key) e) (omega arith)
+      go false e ih = rw e (omega arith)
+
+  -- nor an edit by a key that does not pass
+  pub count-outside : Caseless p → (key value : List ℕ) → p key ≡ false → (ts : List Item) → countOf p (setItem key value ts) ≡ countOf p ts
+  unfolding countOf setItem
+  count-outside c key value h [] = rw (c .cased (upperAll key) key (key-upper key) ∙ h)
+  count-outside c key value h (t ∷ ts) = go (sameKey key (t .key)) refl (count-outside c key value h ts)
+    where
+      go : (a : Bool) → sameKey key (t .key) ≡ a → countOf p (setItem key value ts) ≡ countOf p ts → countOf p (setItem key value (t ∷ ts)) ≡ cond (p (t .key)) 1 0 + countOf p ts
+      go true e ih = rw e
+      go false e ih = rw (e, ih)
+
+-- an item that is set stands there once, where it did not stand there twice
+pub count-set-once : (key value : List ℕ) (ts : List Item) → countOf (sameKey key) ts ≤ 1 → countOf (sameKey key) (setItem key value ts) ≤ 1
+unfolding countOf setItem
+count-set-once key value [] h = rw (key-sym (upperAll key) key (key-upper key)) (omega arith)
+count-set-once key value (t ∷ ts) h = go (sameKey key (t .key)) refl (count-set-once key value ts)
+  where
+    go : (a : Bool) → sameKey key (t .key) ≡ a → (countOf (sameKey key) ts ≤ 1 → countOf (sameKey key) (setItem key value ts) ≤ 1)
+        → countOf (sameKey key) (setItem key value (t ∷ ts)) ≤ 1
+    go true e ih = rw (e, e) (omega (arith, rw e at h))
+    go false e ih = rw (e, e) (omega (arith, ih (omega (arith, rw e at h))))
 
 -- ---- sizes
 

@@ -147,15 +147,15 @@ set-holds key value (t ∷ ts) = go (sameKey key (t .key)) refl (set-holds key v
 
 -- what was found, as a value
 abbrev pub got : List ℕ → Found → Option (List ℕ)
-got s (Value start n) = some (take n (drop start s))
+got s (Value start n repeated) = some (take n (drop start s))
 got s Nothing = none
 got s (Refused r) = none
 
 -- the place that find answers holds what get answers
-pub find-get : (s : List ℕ) (n : ℕ) (key : List ℕ) → Small s → isSome (parse n s) ≡ true → got s (foundAt (locateIn key 0 (itemsIn n s))) ≡ getItem key (itemsIn n s)
-find-get s n key b w = go (locateIn key 0 (itemsIn n s)) refl
+pub find-get : (s : List ℕ) (n : ℕ) (key : List ℕ) → Small s → isSome (parse n s) ≡ true → (repeated : Bool) → got s (foundAt (locateIn key 0 (itemsIn n s)) repeated) ≡ getItem key (itemsIn n s)
+find-get s n key b w repeated = go (locateIn key 0 (itemsIn n s)) refl
   where
-    go : (p : Place) → locateIn key 0 (itemsIn n s) ≡ p → got s (foundAt p) ≡ getItem key (itemsIn n s)
+    go : (p : Place) → locateIn key 0 (itemsIn n s) ≡ p → got s (foundAt p repeated) ≡ getItem key (itemsIn n s)
     go Nowhere q = sym (absent key 0 (itemsIn n s) q .got)
     go Malformed q = absurd (sound key 0 (itemsIn n s) (sym q))
     go (At a k e) q =

@@ -4,7 +4,7 @@ use mathlib.Core.Bool.{Bool, cond}
 use mathlib.Core.Option.{Option, none, some, Option·map}
 use mathlib.Core.List.{List, [], _∷_, _++_}
 use lib.ListN.{length, take, drop}
-use lib.Dec.{leb, eqb}
+use lib.Dec.{leb, ltb, eqb}
 use Rattle.lists.specs.Bytes.{placeOf}
 use Rattle.lists.specs.Choice.{found}
 use Rattle.lists.specs.Le.{u32le, readU32}
@@ -102,6 +102,15 @@ newItem key value = textItem (upperAll key) value
 unfoldable pub setItem : List ℕ → List ℕ → List Item → List Item
 setItem key value [] = newItem key value ∷ []
 setItem key value (t ∷ ts) = cond (sameKey key (t .key)) (withValue value t ∷ ts) (t ∷ setItem key value ts)
+
+-- how many items have a key that passes the test
+unfoldable pub countOf : (List ℕ → Bool) → List Item → ℕ
+countOf p [] = 0
+countOf p (t ∷ ts) = cond (p (t .key)) 1 0 + countOf p ts
+
+-- does an item behind the first match match too?
+abbrev pub isRepeated : List ℕ → List Item → Bool
+isRepeated key ts = ltb 1 (countOf (sameKey key) ts)
 
 -- the items whose keys do not pass the test
 unfoldable pub without : (List ℕ → Bool) → List Item → List Item

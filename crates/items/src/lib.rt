@@ -1,10 +1,14 @@
 // The item area: exactly `count` items, one after another. It stands for the source's `ApeTag`.
 ghost use mathlib.Core.Path.{_≡_};
-ghost use Prim.Native.Nat.{_≤_};
+ghost use mathlib.Core.Bool.{cond};
+ghost use Prim.Native.Nat.{_≤_, _<_, _+_, _-_};
 ghost use lib.ListN.{length, drop};
 ghost use Rattle.lists.specs.Choice.{isSome};
-ghost use Rattle.items.specs.Items.{typeOf, isBinary, asText, parse};
-ghost use Rattle.items.specs.Answers.{stepOf, locateOf, findOf, valueOf, replyTo, isThere};
+ghost use Rattle.replies.specs.declared.Refusal.the-variants.{BadKey};
+ghost use Rattle.keys.specs.Keys.{sameKey, isKey};
+ghost use Rattle.items.specs.Items.{typeOf, isBinary, asText, parse, itemsIn, countOf};
+ghost use Rattle.items.specs.Answers.{stepOf, locateFrom, endOf, placeBy, countBy, locateOf, findOf, valueOf, replyTo, isThere, foundRepeated};
+ghost use Rattle.items.specs.declared.Found.the-variants.{Value, Refused};
 use replies::Refusal;
 
 // What stands at a place of an area.
@@ -31,9 +35,25 @@ pub enum Place {
     Malformed,
 }
 
-// Where a value stands and how long it is.
+// The first match: its start, the end of its key, its end, and how many items are left behind it.
+enum FirstMatch {
+    At {
+        start: usize,
+        key_end: usize,
+        end: usize,
+        left: usize,
+    },
+    Nowhere,
+    Malformed,
+}
+
+// Where a value stands, how long it is, and whether a later item has the key too.
 pub enum Found {
-    Value { start: usize, length: usize },
+    Value {
+        start: usize,
+        length: usize,
+        repeated: bool,
+    },
     Nothing,
     Refused(Refusal),
 }
@@ -118,17 +138,17 @@ pub fn well_formed(area: &[u8], count: usize) -> bool
     well_formed_from(area, 0, count)
 }
 
-// The first item with this key, in one pass that also tests the area.
-pub fn locate(area: &[u8], count: usize, key: &[u8]) -> Place
-    ensures { λ r. ⌜ r ≡ locateOf (now (area .entry)) count (now (key .entry)) ⌝ }
+// The first item with this key among the `count` from `at` on: what stands behind it is not tested.
+fn first_match(area: &[u8], at: usize, count: usize, key: &[u8]) -> FirstMatch
+    requires { ⌜ at ≤ length (now area) ⌝ }
+    ensures { λ r. ⌜ (let s = now (area .entry) in let k = now (key .entry) in
+        (endOf r ≤ length s) × (locateFrom s k at count ≡ placeBy s r)
+        × (countOf (sameKey k) (itemsIn count (drop at s)) ≡ countBy s k r)) ⌝ }
 {
-    if count > area.len() / 9 {
-        return Place::Malformed;
-    }
-    let mut at = 0;
+    let mut i = at;
     let mut left = count;
     while 0 < left {
-        let s = step(area, at);
+        let s = step(area, i);
         let Stepped::Item {
             flags: _,
             key_start,
@@ -137,52 +157,106 @@ pub fn locate(area: &[u8], count: usize, key: &[u8]) -> Place
             value_end,
         } = s
         else {
-            return Place::Malformed;
+            return FirstMatch::Malformed;
         };
         left -= 1;
         if keys::same_key(key, &area[key_start..key_end]) {
-            if !well_formed_from(area, value_end, left) {
-                return Place::Malformed;
-            }
-            return Place::At {
-                start: at,
+            return FirstMatch::At {
+                start: i,
                 key_end,
                 end: value_end,
+                left,
             };
         }
-        at = value_end;
+        i = value_end;
     }
-    if at != area.len() {
-        return Place::Malformed;
+    if i != area.len() {
+        return FirstMatch::Malformed;
     }
-    Place::Nowhere
+    FirstMatch::Nowhere
 }
 
-// The value of the first item with this key: refused, none, or its place.
+// The first item with this key among the `count` from `at` to the end, in one pass that also tests them.
+fn locate_from(area: &[u8], at: usize, count: usize, key: &[u8]) -> Place
+    requires { ⌜ at ≤ length (now area) ⌝ }
+    ensures { λ r. ⌜ r ≡ locateFrom (now (area .entry)) (now (key .entry)) at count ⌝ }
+{
+    let m = first_match(area, at, count, key);
+    match m {
+        FirstMatch::Malformed => Place::Malformed,
+        FirstMatch::Nowhere => Place::Nowhere,
+        FirstMatch::At {
+            start,
+            key_end,
+            end,
+            left,
+        } => {
+            if !well_formed_from(area, end, left) {
+                return Place::Malformed;
+            }
+            Place::At {
+                start,
+                key_end,
+                end,
+            }
+        }
+    }
+}
+
+// The first item with this key, in one pass that also tests the area.
+pub fn locate(area: &[u8], count: usize, key: &[u8]) -> Place
+    ensures { λ r. ⌜ r ≡ locateOf (now (area .entry)) count (now (key .entry)) ⌝ }
+{
+    if count > area.len() / 9 {
+        return Place::Malformed;
+    }
+    locate_from(area, 0, count, key)
+}
+
+// The value of a match that ends at `end`.
+fn value_at(key: &[u8], key_end: usize, end: usize, repeated: bool) -> Found
+    requires { ⌜ «key_end» < end ⌝ }
+    ensures { λ r. ⌜ r ≡ cond (isKey (now (key .entry))) (Value («key_end» + 1) (end - («key_end» + 1)) repeated) (Refused BadKey) ⌝ }
+{
+    if !keys::is_key(key) {
+        return Found::Refused(Refusal::BadKey);
+    }
+    let start = key_end + 1;
+    Found::Value {
+        start,
+        length: end - start,
+        repeated,
+    }
+}
+
+// The value of the first item with this key, in one pass: refused, none, or its place and whether a later item has the key too.
 pub fn find(area: &[u8], count: usize, key: &[u8]) -> Found
     ensures { λ r. ⌜ r ≡ findOf (now (area .entry)) count (now (key .entry)) ⌝ }
 {
-    let p = locate(area, count, key);
-    match p {
-        Place::Malformed => Found::Refused(Refusal::MalformedArea),
-        Place::Nowhere => {
+    let m = first_match(area, 0, count, key);
+    match m {
+        FirstMatch::Malformed => Found::Refused(Refusal::MalformedArea),
+        FirstMatch::Nowhere => {
             if !keys::is_key(key) {
                 return Found::Refused(Refusal::BadKey);
             }
             Found::Nothing
         }
-        Place::At {
+        FirstMatch::At {
             start: _,
             key_end,
             end,
+            left,
         } => {
-            if !keys::is_key(key) {
-                return Found::Refused(Refusal::BadKey);
-            }
-            let start = key_end + 1;
-            Found::Value {
-                start,
-                length: end - start,
+            let later = locate_from(area, end, left, key);
+            match later {
+                Place::Malformed => Found::Refused(Refusal::MalformedArea),
+                Place::Nowhere => value_at(key, key_end, end, false),
+                Place::At {
+                    start: _,
+                    key_end: _,
+                    end: _,
+                } => value_at(key, key_end, end, true),
             }
         }
     }
@@ -192,7 +266,12 @@ pub fn find(area: &[u8], count: usize, key: &[u8]) -> Found
 pub fn value<'a>(area: &'a [u8], f: Found) -> &'a [u8]
     ensures { λ r. ⌜ now r ≡ valueOf (now (area .entry)) f ⌝ }
 {
-    let Found::Value { start, length: n } = f else {
+    let Found::Value {
+        start,
+        length: n,
+        repeated: _,
+    } = f
+    else {
         return &area[0..0];
     };
     if area.len() < start {
@@ -213,6 +292,7 @@ pub fn reply(f: Found) -> u32
         Found::Value {
             start: _,
             length: _,
+            repeated: _,
         } => 0,
         Found::Nothing => 0,
         Found::Refused(r) => replies::number(r),
@@ -227,25 +307,45 @@ pub fn is_there(f: Found) -> bool
         Found::Value {
             start: _,
             length: _,
+            repeated: _,
         } => true,
         Found::Nothing => false,
         Found::Refused(_) => false,
     }
 }
 
-// The value itself, in one call: `status` is 0 or the number of the refusal, and `there` says whether a value was found.
+// Whether a later item has the key too.
+pub fn is_repeated(f: Found) -> bool
+    ensures { λ r. ⌜ r ≡ foundRepeated f ⌝ }
+{
+    match f {
+        Found::Value {
+            start: _,
+            length: _,
+            repeated,
+        } => repeated,
+        Found::Nothing => false,
+        Found::Refused(_) => false,
+    }
+}
+
+// The value itself, in one call: `status` is 0 or the number of the refusal, and `there` says whether a value was found, `repeated` whether a later
+// item has the key too.
 pub fn get<'a>(
     area: &'a [u8],
     count: usize,
     key: &[u8],
     status: &mut u32,
     there: &mut bool,
+    repeated: &mut bool,
 ) -> &'a [u8]
     ensures { λ r. ⌜ (let found = findOf (now (area .entry)) count (now (key .entry)) in
-        (now r ≡ valueOf (now (area .entry)) found) × (now (status .exit) ≡ replyTo found) × (now (there .exit) ≡ isThere found)) ⌝ }
+        (now r ≡ valueOf (now (area .entry)) found) × (now (status .exit) ≡ replyTo found) × (now (there .exit) ≡ isThere found)
+        × (now (repeated .exit) ≡ foundRepeated found)) ⌝ }
 {
     let f = find(area, count, key);
     *status = reply(f);
     *there = is_there(f);
+    *repeated = is_repeated(f);
     value(area, f)
 }

@@ -35,7 +35,7 @@ fn which(text: &[u8], at: usize) -> bool {
     }
 }
 
-// `get COUNT AREA KEY REPLY VALUE|none`.
+// `get COUNT AREA KEY REPLY VALUE REPEATED|none`.
 fn get(text: &[u8], at: usize) -> bool {
     let area_at = words::next_word(text, at);
     let key_at = words::next_word(text, area_at);
@@ -48,7 +48,15 @@ fn get(text: &[u8], at: usize) -> bool {
     let count = words::unsigned(text, at) as usize;
     let mut status = 0;
     let mut there = false;
-    let value = items::get(&area[0..m], count, &name[0..n], &mut status, &mut there);
+    let mut repeated = false;
+    let value = items::get(
+        &area[0..m],
+        count,
+        &name[0..n],
+        &mut status,
+        &mut there,
+        &mut repeated,
+    );
     if !is_number(text, reply_at, status as u64) {
         return false;
     }
@@ -56,7 +64,13 @@ fn get(text: &[u8], at: usize) -> bool {
         if lists::starts_with(text, value_at, b"none") {
             return false;
         }
+        if !is_number(text, words::next_word(text, value_at), repeated as u64) {
+            return false;
+        }
         return is_hex(text, value_at, value);
+    }
+    if repeated {
+        return false;
     }
     if status == 0 {
         return lists::starts_with(text, value_at, b"none");

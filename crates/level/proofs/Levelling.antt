@@ -10,7 +10,7 @@ use borrow.Author.Tests.{le-leb, lt-leb}
 use Rattle.lists.specs.Choice.{found}
 use Rattle.replies.specs.Refusal.{Plan, no, yes, Test, need, refusalOf, planned}
 use Rattle.replies.specs.declared.Refusal.{Refusal}
-use Rattle.replies.specs.declared.Refusal.the-variants.{FileTooLong, StepOutOfRange, NoLeftGains, NotEditable, FlagDiffers, UndoOutOfRange, TagTooLarge, NoRoom}
+use Rattle.replies.specs.declared.Refusal.the-variants.{FileTooLong, StepOutOfRange, NoLeftGains, NotEditable, FlagDiffers, UndoOutOfRange, TagTooLarge, NoRoom, SecondUndo}
 use Rattle.slip.specs.Slip.{isStep}
 use Rattle.values.specs.declared.UndoValues.{UndoValues}
 use Rattle.values.specs.declared.Range.{Range}
@@ -21,7 +21,7 @@ use Rattle.ape_write.specs.declared.Written.{Written}
 use Rattle.ape_write.specs.declared.Written.the-variants.{Done as Wrote, Refused as Unwritten}
 use Rattle.ape_write.specs.Answers.{writtenAnswer, writtenBytes}
 use Rattle.calls.specs.Gate.{passesGate, itemsOf, tagFits}
-use Rattle.calls.specs.Calls.{Level, Levelled, storedUndo, agrees, booked, numbersFit, rangeOf, adjusted, levelItems, newItems, isThere, levelGives, levelPlan}
+use Rattle.calls.specs.Calls.{Level, Levelled, storedUndo, undoOnce, agrees, booked, numbersFit, rangeOf, adjusted, levelItems, newItems, isThere, levelGives, levelPlan}
 use Rattle.edit.specs.Finish.{tagPlan}
 use Rattle.level_items.specs.Items.{undoneItems, rangedItems}
 use Rattle.level.specs.declared.Booked.{Booked}
@@ -73,7 +73,7 @@ planned-yes (some r) v e = absurd (let z : _≡_ {A = ℕ} 0 1 = cc in omega ari
 
 pub numbers-are : (l : Level) (ts : List Item) {u : UndoValues} → bookedPlan l ts ≡ yes u → u ≡ booked l ts
 unfolding bookedPlan
-numbers-are l ts e = planned-yes (refusalOf (need FlagDiffers (found (storedUndo ts) true (agrees (l .mode))) ∷ need UndoOutOfRange (numbersFit (booked l ts)) ∷ [])) (booked l ts) e
+numbers-are l ts e = planned-yes (refusalOf (need SecondUndo (undoOnce ts) ∷ need FlagDiffers (found (storedUndo ts) true (agrees (l .mode))) ∷ need UndoOutOfRange (numbersFit (booked l ts)) ∷ [])) (booked l ts) e
 
 -- ---- the last tests
 
@@ -112,23 +112,25 @@ module _ (file left right : List ℕ) (l : Level) (room : ℕ) where
 -- ---- the tests before them
 
 -- the tests of the stored undo item come before those of the new file
-module _ (flag small fits room : Bool) (v : UndoValues) (x : Levelled) where
+module _ (once flag small fits room : Bool) (v : UndoValues) (x : Levelled) where
   abbrev stored : Plan UndoValues
-  stored = planned (refusalOf (need FlagDiffers flag ∷ need UndoOutOfRange small ∷ [])) v
+  stored = planned (refusalOf (need SecondUndo once ∷ need FlagDiffers flag ∷ need UndoOutOfRange small ∷ [])) v
 
   abbrev all : Plan Levelled
-  all = planned (refusalOf (need FlagDiffers flag ∷ need UndoOutOfRange small ∷ need TagTooLarge fits ∷ need NoRoom room ∷ [])) x
+  all = planned (refusalOf (need SecondUndo once ∷ need FlagDiffers flag ∷ need UndoOutOfRange small ∷ need TagTooLarge fits ∷ need NoRoom room ∷ [])) x
 
-stored-no : (flag small fits room : Bool) (v : UndoValues) (x : Levelled) {r : Refusal} → stored flag small fits room v x ≡ no r → all flag small fits room v x ≡ no r
-stored-no false small fits room v x {r} e = ap no (same-refusal FlagDiffers r e)
-stored-no true false fits room v x {r} e = ap no (same-refusal UndoOutOfRange r e)
-stored-no true true fits room v x {r} e = absurd (never r v (sym e))
+stored-no : (once flag small fits room : Bool) (v : UndoValues) (x : Levelled) {r : Refusal} → stored once flag small fits room v x ≡ no r → all once flag small fits room v x ≡ no r
+stored-no false flag small fits room v x {r} e = ap no (same-refusal SecondUndo r e)
+stored-no true false small fits room v x {r} e = ap no (same-refusal FlagDiffers r e)
+stored-no true true false fits room v x {r} e = ap no (same-refusal UndoOutOfRange r e)
+stored-no true true true fits room v x {r} e = absurd (never r v (sym e))
 
-stored-yes : (flag small fits room : Bool) (v : UndoValues) (x : Levelled) {u : UndoValues} → stored flag small fits room v x ≡ yes u
-    → all flag small fits room v x ≡ planned (refusalOf (need TagTooLarge fits ∷ need NoRoom room ∷ [])) x
-stored-yes false small fits room v x {u} e = absurd (never FlagDiffers u e)
-stored-yes true false fits room v x {u} e = absurd (never UndoOutOfRange u e)
-stored-yes true true fits room v x e = refl
+stored-yes : (once flag small fits room : Bool) (v : UndoValues) (x : Levelled) {u : UndoValues} → stored once flag small fits room v x ≡ yes u
+    → all once flag small fits room v x ≡ planned (refusalOf (need TagTooLarge fits ∷ need NoRoom room ∷ [])) x
+stored-yes false flag small fits room v x {u} e = absurd (never SecondUndo u e)
+stored-yes true false small fits room v x {u} e = absurd (never FlagDiffers u e)
+stored-yes true true false fits room v x {u} e = absurd (never UndoOutOfRange u e)
+stored-yes true true true fits room v x e = refl
 
 module _ (file left right : List ℕ) (l : Level) (room : ℕ) where
   pub level-1 : 16777216 < length file → levelPlan file left right l room ≡ no FileTooLong
@@ -170,8 +172,8 @@ module _ (file left right : List ℕ) (l : Level) (room : ℕ) where
 
             pub level-booked : {r : Refusal} → bookedPlan l (itemsOf file) ≡ no r → levelPlan file left right l room ≡ no r
             unfolding levelPlan bookedPlan
-            level-booked e = rw (le-leb _ _ h, s, t, g, p) (stored-no flag small fits ample (booked l (itemsOf file)) (levelGives file left right l) e)
+            level-booked e = rw (le-leb _ _ h, s, t, g, p) (stored-no (undoOnce (itemsOf file)) flag small fits ample (booked l (itemsOf file)) (levelGives file left right l) e)
 
             pub level-last : {u : UndoValues} → bookedPlan l (itemsOf file) ≡ yes u → levelPlan file left right l room ≡ lastPlan file left right l room
             unfolding levelPlan bookedPlan lastPlan
-            level-last e = rw (le-leb _ _ h, s, t, g, p) (stored-yes flag small fits ample (booked l (itemsOf file)) (levelGives file left right l) e)
+            level-last e = rw (le-leb _ _ h, s, t, g, p) (stored-yes (undoOnce (itemsOf file)) flag small fits ample (booked l (itemsOf file)) (levelGives file left right l) e)

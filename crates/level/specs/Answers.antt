@@ -5,13 +5,13 @@ use mathlib.Core.List.{List, [], _∷_}
 use lib.ListN.{length}
 use Rattle.lists.specs.Choice.{found}
 use Rattle.replies.specs.Refusal.{Plan, no, yes, need, refusalOf, planned}
-use Rattle.replies.specs.declared.Refusal.the-variants.{TagTooLarge, FlagDiffers, UndoOutOfRange}
+use Rattle.replies.specs.declared.Refusal.the-variants.{TagTooLarge, FlagDiffers, UndoOutOfRange, SecondUndo}
 use Rattle.values.specs.declared.UndoValues.{UndoValues}
 use Rattle.items.specs.Items.{Item}
 use Rattle.ape.specs.Tag.{replaced}
 use Rattle.ape.specs.Answers.{roomFor}
 use Rattle.calls.specs.Gate.{tagFits}
-use Rattle.calls.specs.Calls.{Level, Levelled, storedUndo, agrees, booked, numbersFit, newItems, levelGives}
+use Rattle.calls.specs.Calls.{Level, Levelled, storedUndo, undoOnce, agrees, booked, numbersFit, newItems, levelGives}
 use Rattle.level.specs.declared.LevelAnswer.{LevelAnswer}
 use Rattle.level.specs.declared.LevelAnswer.the-variants.{Done, Refused}
 use Rattle.level.specs.declared.Booked.{Booked}
@@ -37,11 +37,11 @@ abbrev pub rightAfter : Plan Levelled → List ℕ → List ℕ
 rightAfter (no r) gains = gains
 rightAfter (yes x) gains = x .right
 
--- the tests of level that the stored undo item decides: refusals 9 and 11
+-- the tests of level that the stored undo item decides: refusals 14, 9 and 11
 unfoldable pub bookedPlan : Level → List Item → Plan UndoValues
 bookedPlan l ts =
     planned
-    (refusalOf (need FlagDiffers (found (storedUndo ts) true (agrees (l .mode))) ∷ need UndoOutOfRange (numbersFit (booked l ts)) ∷ []))
+    (refusalOf (need SecondUndo (undoOnce ts) ∷ need FlagDiffers (found (storedUndo ts) true (agrees (l .mode))) ∷ need UndoOutOfRange (numbersFit (booked l ts)) ∷ []))
     (booked l ts)
 
 -- the numbers to store, or the refusal

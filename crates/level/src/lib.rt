@@ -6,11 +6,11 @@ ghost use lib.ListN.{length};
 ghost use Rattle.lists.specs.Choice.{isSome};
 ghost use Rattle.lists.specs.Write.{over};
 ghost use Rattle.replies.specs.Limits.{countLimit, areaLimit};
-ghost use Rattle.items.specs.Items.{parse, itemsIn};
+ghost use Rattle.items.specs.Items.{parse, itemsIn, countOf};
 ghost use Rattle.items.specs.Answers.{isThere, valueOf};
 ghost use Rattle.ape_write.specs.Answers.{writtenBytes};
 ghost use Rattle.calls.specs.Gate.{itemsOf};
-ghost use Rattle.calls.specs.Calls.{Level, agrees, isUndoNumber, booked, countOf, isPeakKey, levelPlan};
+ghost use Rattle.calls.specs.Calls.{Level, agrees, isUndoNumber, booked, isPeakKey, levelPlan};
 ghost use Rattle.gate.specs.Gate.{Passed};
 ghost use Rattle.edit.specs.Finish.{tagPlan};
 ghost use Rattle.level_items.specs.Items.{rangedItems};
@@ -42,9 +42,14 @@ pub enum Booked {
 fn flag_fits(area: &[u8], f: Found, mode: GainMode) -> bool
     ensures { λ r. ⌜ r ≡ cond (isThere f) (agrees mode (valueOf (now (area .entry)) f)) true ⌝ }
 {
-    if !items::is_there(f) {
+    let Found::Value {
+        start: _,
+        length: _,
+        repeated: _,
+    } = f
+    else {
         return true;
-    }
+    };
     let wraps = values::parse_undo_wrap(items::value(area, f));
     match mode {
         GainMode::Saturating => !wraps,
@@ -60,7 +65,7 @@ fn is_undo_number(n: i32) -> bool
     a.by < 32768
 }
 
-// The undo numbers that level stores in a well-formed area: refusals 9 and 11.
+// The undo numbers that level stores in a well-formed area: refusals 14, 9 and 11.
 fn book_undo(
     area: &[u8],
     count: usize,
@@ -72,6 +77,9 @@ fn book_undo(
     ensures { λ r. ⌜ r ≡ bookedAnswer (bookedPlan (record { left = «left_steps» .0; right = «right_steps» .0; mode = mode }) (itemsIn count (now (area .entry)))) ⌝ }
 {
     let f = items::find(area, count, &keys::TAG_MP3GAIN_UNDO);
+    if items::is_repeated(f) {
+        return Booked::Refused(Refusal::SecondUndo);
+    }
     if !flag_fits(area, f, mode) {
         return Booked::Refused(Refusal::FlagDiffers);
     }
@@ -245,7 +253,7 @@ fn level_booked(
     a
 }
 
-// Every gain moved, and the file with the items that say so: refusals 1, 2, 7, 8, 9, 11, 6 and 5. The reply is decided before the first
+// Every gain moved, and the file with the items that say so: refusals 1, 2, 7, 8, 14, 9, 11, 6 and 5. The reply is decided before the first
 // gain changes.
 pub fn level(
     file: &[u8],

@@ -24,6 +24,7 @@ use Rattle.replies.specs.declared.Refusal.the-variants.{
   UndoOutOfRange,
   MalformedArea,
   MalformedSlip,
+  SecondUndo,
 }
 
 -- every test holds
@@ -67,14 +68,15 @@ placeIn BadKey = 4
 placeIn NotUtf8 = 5
 placeIn NoLeftGains = 6
 placeIn NotEditable = 7
-placeIn NoUndo = 8
-placeIn FlagDiffers = 9
-placeIn UndoOutOfRange = 10
-placeIn TagTooLarge = 11
-placeIn NoRoom = 12
+placeIn SecondUndo = 8
+placeIn NoUndo = 9
+placeIn FlagDiffers = 10
+placeIn UndoOutOfRange = 11
+placeIn TagTooLarge = 12
+placeIn NoRoom = 13
 
 -- each refusal has its place there
-listed : (r : Refusal) → (getD order (placeIn r) FileTooLong ≡ r) × (placeIn r < 13)
+listed : (r : Refusal) → (getD order (placeIn r) FileTooLong ≡ r) × (placeIn r < 14)
 listed MalformedSlip = (refl, omega arith)
 listed FileTooLong = (refl, omega arith)
 listed MalformedArea = (refl, omega arith)
@@ -83,6 +85,7 @@ listed BadKey = (refl, omega arith)
 listed NotUtf8 = (refl, omega arith)
 listed NoLeftGains = (refl, omega arith)
 listed NotEditable = (refl, omega arith)
+listed SecondUndo = (refl, omega arith)
 listed NoUndo = (refl, omega arith)
 listed FlagDiffers = (refl, omega arith)
 listed UndoOutOfRange = (refl, omega arith)

@@ -19,6 +19,7 @@ use Rattle.replies.specs.declared.Refusal.the-variants.{
   UndoOutOfRange,
   MalformedArea,
   MalformedSlip,
+  SecondUndo,
 }
 
 -- the number of each refusal in the table
@@ -36,12 +37,13 @@ numberOf NoUndo = 10
 numberOf UndoOutOfRange = 11
 numberOf MalformedArea = 12
 numberOf MalformedSlip = 13
+numberOf SecondUndo = 14
 
 -- where several apply, the first of these is given
 abbrev pub order : List Refusal
 order =
-    MalformedSlip ∷ FileTooLong ∷ MalformedArea ∷ StepOutOfRange ∷ BadKey ∷ NotUtf8 ∷ NoLeftGains ∷ NotEditable ∷ NoUndo
-    ∷ FlagDiffers ∷ UndoOutOfRange ∷ TagTooLarge ∷ NoRoom ∷ []
+    MalformedSlip ∷ FileTooLong ∷ MalformedArea ∷ StepOutOfRange ∷ BadKey ∷ NotUtf8 ∷ NoLeftGains ∷ NotEditable ∷ SecondUndo
+    ∷ NoUndo ∷ FlagDiffers ∷ UndoOutOfRange ∷ TagTooLarge ∷ NoRoom ∷ []
 
 -- what a call needs, and how it refuses where that does not hold
 pub record Test : Type 0 where

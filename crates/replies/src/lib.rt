@@ -28,6 +28,7 @@ pub enum Refusal {
     UndoOutOfRange,
     MalformedArea,
     MalformedSlip,
+    SecondUndo,
 }
 
 // The number of a refusal in document 01's table.
@@ -48,5 +49,6 @@ pub fn number(r: Refusal) -> u32
         Refusal::UndoOutOfRange => 11,
         Refusal::MalformedArea => 12,
         Refusal::MalformedSlip => 13,
+        Refusal::SecondUndo => 14,
     }
 }

@@ -7,7 +7,7 @@ use mathlib.Core.Option.{Option, none, some, Option·map}
 use mathlib.Core.List.{List, [], _∷_, _++_}
 use lib.ListN.{length, length-append}
 use lib.Dec.{leb}
-use borrow.Author.Tests.{leb-true, le-leb}
+use borrow.Author.Tests.{leb-true, le-leb, le-ltb}
 use Rattle.lists.specs.Bytes.{all}
 use Rattle.lists.specs.Choice.{found}
 use Rattle.replies.specs.Limits.{fileLimit, countLimit, areaLimit}
@@ -23,18 +23,19 @@ use Rattle.replies.specs.declared.Refusal.the-variants.{
   NotEditable,
   FlagDiffers,
   UndoOutOfRange,
+  SecondUndo,
 }
 use Rattle.replies.proofs.Order.{AllHold, all-held, passed, done}
 use Rattle.utf8.specs.Utf8.{valid}
 use Rattle.keys.specs.Keys.{upperAll, sameKey, isMp3gainKey, undoKey, minmaxKey, isKey, printable}
 use Rattle.keys.proofs.Keys.{same-caseless, from-caseless, not-undo, printable-whole, printable-upper, key-printable}
-use Rattle.items.specs.Items.{Item, itemBytes, areaBytes, setItem, without, removeItem}
+use Rattle.items.specs.Items.{Item, itemBytes, areaBytes, setItem, without, removeItem, countOf}
 use Rattle.items.proofs.Area.{length-item}
-use Rattle.items.proofs.ItemLaws.{get-set-same, get-set-other, get-without, set-outside, without-without, count-without, area-without, sane-without, sane-set}
+use Rattle.items.proofs.ItemLaws.{count-kept, count-outside, get-set-same, get-set-other, get-without, set-outside, without-without, count-without, area-without, sane-without, sane-set}
 use Rattle.ape.specs.Tag.{tagBytes, serialize, fileOf}
 use Rattle.ape.specs.Answers.{lentFits, roomFor, hasRoom}
 use Rattle.calls.specs.Gate.{tagFits}
-use Rattle.calls.specs.Calls.{Level, Levelled, adjusted, storedUndo, agrees, booked, numbersFit, levelItems, countOf, isPeakKey, isThere, stepsFit, others, undoneLeft, undoneRight, setPlan, removePlan, levelPlan, undoPlan}
+use Rattle.calls.specs.Calls.{Level, Levelled, adjusted, storedUndo, undoOnce, agrees, booked, numbersFit, levelItems, isPeakKey, isThere, stepsFit, others, undoneLeft, undoneRight, setPlan, removePlan, levelPlan, undoPlan}
 use Rattle.calls.proofs.Lists.{both, and-of}
 use Rattle.book.proofs.Sound.{Good, Sound}
 use Rattle.ape.proofs.Files.{length-block}
@@ -194,6 +195,11 @@ unfolding undoIn storedUndo
 edit-stored (set key value room) n ts = ap (Option·map readUndo) (get-set-other undoKey key value ts (not-by-undo key n))
 edit-stored (remove key room) n ts = ap (Option·map readUndo) (get-without (sameKey key) (same-caseless key) undoKey ts (not-undo key n))
 
+-- nor does it add an undo item
+pub edit-once : (e : Edit) → isMp3gainKey (keyOf e) ≡ false → (ts : List Item) → countOf (sameKey undoKey) ts ≤ 1 → countOf (sameKey undoKey) (editItems e ts) ≤ 1
+edit-once (set key value room) n ts h = rw (count-outside (sameKey undoKey) (same-caseless undoKey) key value (not-by-undo key n) ts) h
+edit-once (remove key room) n ts h = omega (arith, count-kept (sameKey undoKey) (sameKey key) ts)
+
 others-count : (ts : List Item) → length (others ts) ≤ length ts
 unfolding others
 others-count ts = count-without isMp3gainKey ts
@@ -245,7 +251,7 @@ gainsTo l left right = adjusted (l .mode) (l .left) left ++ adjusted (l .mode) (
 abbrev levelTests : List ℕ → List Item → List ℕ → List ℕ → Level → List Item → ℕ → List Test
 levelTests front ts back left l new room =
     lentFits (fileOf front ts back) ∷ need StepOutOfRange (stepsFit l) ∷ need NoLeftGains (isThere left) ∷ need NotEditable true
-    ∷ need FlagDiffers (found (storedUndo ts) true (agrees (l .mode))) ∷ need UndoOutOfRange (numbersFit (booked l ts))
+    ∷ need SecondUndo (undoOnce ts) ∷ need FlagDiffers (found (storedUndo ts) true (agrees (l .mode))) ∷ need UndoOutOfRange (numbersFit (booked l ts))
     ∷ need TagTooLarge (tagFits new) ∷ roomFor room (fileOf front new back) ∷ []
 
 module _ (front back : List ℕ) (ts : List Item) (s : Sound front ts back) (left right : List ℕ) where
@@ -305,10 +311,10 @@ module _ (front back : List ℕ) (ts : List Item) (s : Sound front ts back) (lef
   abbrev undoneText : List ℕ → Levelled
   undoneText text = record { out = fileOf front (others ts) back; left = undoneLeft text left; right = undoneRight text right; peaks = 0 }
 
-  undo-text : (room : ℕ) (text : List ℕ) → length (fileOf front ts back) ≤ fileLimit → isThere left ≡ true → storedUndo ts ≡ some text
+  undo-text : (room : ℕ) (text : List ℕ) → countOf (sameKey undoKey) ts ≤ 1 → length (fileOf front ts back) ≤ fileLimit → isThere left ≡ true → storedUndo ts ≡ some text
       → length (fileOf front ts back) ≤ room → undoPlan (fileOf front ts back) left right room ≡ yes (undoneText text)
   unfolding undoPlan
-  undo-text room text i n q h =
+  undo-text room text once i n q h =
       let f : length (fileOf front (others ts) back) ≤ length (fileOf front ts back) = others-file front ts back in
       rw (
         law-passes front ts back s,
@@ -317,6 +323,7 @@ module _ (front back : List ℕ) (ts : List Item) (s : Sound front ts back) (lef
         q,
         le-leb _ fileLimit i,
         n,
+        le-ltb 1 (countOf (sameKey undoKey) ts) once,
         room-of room (fileOf front (others ts) back) (omega arith) (omega arith),
       )
 
@@ -336,14 +343,14 @@ module _ (front back : List ℕ) (ts : List Item) (s : Sound front ts back) (lef
     pub left-is : result .left ≡ undoneBy onLeft u left
     pub right-is : result .right ≡ undoneBy onRight u right
 
-  pub undo-gives : (room : ℕ) (u : Undo) → length (fileOf front ts back) ≤ fileLimit → isThere left ≡ true → undoIn ts ≡ some u
+  pub undo-gives : (room : ℕ) (u : Undo) → countOf (sameKey undoKey) ts ≤ 1 → length (fileOf front ts back) ≤ fileLimit → isThere left ≡ true → undoIn ts ≡ some u
       → length (fileOf front ts back) ≤ room → Undone room u
   unfolding undoneBy readUndo
-  undo-gives room u i n e h =
+  undo-gives room u once i n e h =
       let (text, q, r) = text-of u e in
       record {
         result = undoneText text;
-        accepted = undo-text room text i n q h;
+        accepted = undo-text room text once i n q h;
         out-is = refl;
         left-is = ap (λ x. undoneBy onLeft x left) r;
         right-is = ap (λ x. undoneBy onRight x right) r;

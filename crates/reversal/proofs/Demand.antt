@@ -1,5 +1,6 @@
 -- Demand 3: a list of calls, and the undo after it.
 use Prim.Native.Nat.{ℕ, _≤_, _<_}
+use native.Mathlib.Omega.{arith}
 use mathlib.Core.Path.{_≡_, refl, sym, ap, _∙_, subst}
 use mathlib.Core.Logic.{_↔_, _⊎_, inl, inr}
 use mathlib.Core.Bool.{Bool, true, false, true≢false}
@@ -14,8 +15,9 @@ use Rattle.frame.specs.declared.GainMode.the-variants.{Wrapping}
 use Rattle.frame.specs.Gain.{adjust}
 use Rattle.frame.specs.Steps.{InRange, Kept}
 use Rattle.frame.proofs.GainLists.{backAll, each-back, length-backAll, getD-map}
-use Rattle.keys.specs.Keys.{isMp3gainKey}
-use Rattle.items.specs.Items.{Item}
+use Rattle.keys.specs.Keys.{sameKey, isMp3gainKey, undoKey}
+use Rattle.items.specs.Items.{Item, countOf}
+use Rattle.items.proofs.ItemLaws.{count-fewer}
 use Rattle.ape.specs.Tag.{fileOf}
 use Rattle.calls.specs.Gate.{itemsOf}
 use Rattle.calls.specs.Calls.{Level, Levelled, adjusted, storedUndo, levelItems, isThere, others, levelTests, levelGives, levelPlan, undoPlan}
@@ -25,9 +27,9 @@ use Rattle.book.proofs.Sound.{Sound}
 use Rattle.book.proofs.Reading.{law-items}
 use Rattle.book.proofs.Settled.{settled-sound, settled-book}
 use Rattle.reversal.specs.Demand.{Apart, undoneOn, Given, Restored, Demand3}
-use Rattle.calls.proofs.Items.{none-dropped, none-got, level-others}
+use Rattle.calls.proofs.Items.{none-dropped, none-got, by-undo, level-others, level-once}
 use Rattle.reversal.proofs.Levels.{undoIn, bookedBy, Fair, fair, Desk, gains, levelDesk, undoneBy, steps, AllOf, Chain, perform, Reversed, performed}
-use Rattle.reversal.proofs.Calls.{sound-without, EditPasses, edit-passes, edit-accepted, edit-sound, edit-others, edit-stored, edit-fewer, LevelPasses, gainsTo, level-stored, level-passes, level-gives, level-sound, Undone, undo-gives}
+use Rattle.reversal.proofs.Calls.{sound-without, EditPasses, edit-passes, edit-accepted, edit-sound, edit-others, edit-stored, edit-once, edit-fewer, LevelPasses, gainsTo, level-stored, level-passes, level-gives, level-sound, Undone, undo-gives}
 
 -- the state's file is the book's file with more items, all of them of the eight keys
 pub record Holds (b : Book) (s : State) : Type 0 where
@@ -35,6 +37,7 @@ pub record Holds (b : Book) (s : State) : Type 0 where
   pub sound : Sound (b .front) items (b .back)
   pub file : s .file ≡ fileOf (b .front) items (b .back)
   pub rest : others items ≡ b .items
+  pub once : countOf (sameKey undoKey) items ≤ 1
 
 -- what level calls read and change
 unfoldable pub desk : State → Desk
@@ -122,6 +125,7 @@ module _ (b : Book) (s : State) (h : Holds b s) where
       sound = edit-sound (b .front) (b .back) (h .items) (h .sound) e edit-ok;
       file = rw edit-next;
       rest = rw (edit-others e n (h .items), h .rest);
+      once = edit-once e n (h .items) (h .once);
     }
 
     edit-desk : desk (next s (edit e)) ≡ desk s
@@ -172,6 +176,7 @@ module _ (b : Book) (s : State) (h : Holds b s) where
       sound = level-sound (b .front) (b .back) (h .items) (h .sound) (s .left) (s .right) l room level-ok;
       file = rw level-next;
       rest = level-others l (h .items) (gainsTo l (s .left) (s .right)) ∙ h .rest;
+      once = level-once l (h .items) (gainsTo l (s .left) (s .right)) (h .once);
     }
 
     level-desk : desk (next s (level l room)) ≡ levelDesk (desk s) l
@@ -341,6 +346,7 @@ module _ (s : State) (cs : List Call) (room : ℕ) (given : Given s cs room) whe
     sound = settled-sound (s .file) (given .settled-file);
     file = sym (settled-book (s .file) (given .settled-file));
     rest = none-dropped isMp3gainKey (itemsOf (s .file)) (given .none-of-eight);
+    once = omega (arith, count-fewer isMp3gainKey (sameKey undoKey) by-undo (itemsOf (s .file)), given .none-of-eight);
   }
 
   first-stored : (desk s) .stored ≡ none
@@ -389,7 +395,7 @@ module _ (s : State) (cs : List Call) (room : ℕ) (given : Given s cs room) whe
       let here = all .holds in
       let ready = all .reaches (given .some-level) in
       let stored : undoIn (here .items) ≡ some (back .undo) = sym (stored-at b′ s′ here) ∙ ap (λ (d : Desk). d .stored) (all .desk-is) ∙ back .item in
-      undo-gives (b′ .front) (b′ .back) (here .items) (here .sound) (s′ .left) (s′ .right) room (back .undo)
+      undo-gives (b′ .front) (b′ .back) (here .items) (here .sound) (s′ .left) (s′ .right) room (back .undo) (here .once)
       (subst (λ (f : List ℕ). length f ≤ fileLimit) (here .file) (ready .small)) (ready .some-left) stored
       (subst (λ (f : List ℕ). length f ≤ room) (here .file) (given .long))
 

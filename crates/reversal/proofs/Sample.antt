@@ -18,10 +18,10 @@ use Rattle.frame.specs.Tail.{standsAt, startOf, tagStart}
 use Rattle.utf8.specs.Utf8.{numberOf, classAt, stepOf, validFrom, valid}
 use Rattle.utf8.specs.Utf8 as utf8
 use Rattle.lossy.proofs.Lists.{small-all}
-use Rattle.items.specs.Items.{itemBytes, areaBytes, headAt, head, parse, getItem, setItem, without}
+use Rattle.items.specs.Items.{itemBytes, areaBytes, headAt, head, parse, getItem, setItem, without, countOf}
 use Rattle.ape.specs.Tag.{blockBytes, tagBytes, serialize, findFooter, areaAt, moved, split, fileOf, replaced}
 use Rattle.calls.specs.Gate.{headerAt, fit, itemValid, allValid, gateItems, passesGate, itemsOf, tagFits}
-use Rattle.calls.specs.Calls.{setPlan, removePlan, staying, shiftItem, shiftStoredGain, storedUndo, booked, least, greatest, shiftedItems, levelItems, countOf, isPeakKey, levelPlan}
+use Rattle.calls.specs.Calls.{setPlan, removePlan, staying, shiftItem, shiftStoredGain, storedUndo, booked, least, greatest, shiftedItems, levelItems, isPeakKey, levelPlan}
 use Rattle.calls.specs.Figures.{flagged, item, fives}
 use Rattle.book.specs.Book.{settled, bookOf, bookFile}
 use Rattle.reversal.specs.Run.{set, remove, onLeft, onRight, editPlan, feed, fed, bookAfter, outcome, accepts, next, run, acceptedLevels, acceptedEdits}

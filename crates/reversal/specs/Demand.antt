@@ -8,8 +8,9 @@ use lib.ListN.{length, getD}
 use Rattle.lists.specs.Bytes.{Small}
 use Rattle.replies.specs.Refusal.{Plan, yes}
 use Rattle.keys.specs.Keys.{isMp3gainKey}
+use Rattle.items.specs.Items.{countOf}
 use Rattle.calls.specs.Gate.{itemsOf}
-use Rattle.calls.specs.Calls.{Levelled, countOf, undoPlan}
+use Rattle.calls.specs.Calls.{Levelled, undoPlan}
 use Rattle.book.specs.Book.{settled, bookFile}
 use Rattle.reversal.specs.Run.{keyOf, Call, level, edit, State, Side, onLeft, onRight, gainsOn, run, acceptedLevels, acceptedEdits, editsAlone, bookAfter, Wrapped, Landed}
 

@@ -1,17 +1,17 @@
 -- What the answers of code say.
 use mathlib.Core.Path.{_≡_, refl, sym, ap}
 use mathlib.Core.Option.{Option, none, some}
-use Rattle.frame.specs.declared.GainMode.{GainMode}
+use Rattle.slip.specs.declared.SlipMode.{SlipMode}
 use Rattle.slip.specs.Slip.{modeIs, formIs}
 use Rattle.slip.specs.declared.Wish.{Wish}
 use Rattle.slip.specs.declared.ModeLine.the-variants as m
 use Rattle.slip.specs.declared.Form.the-variants as f
 
-pub mode-is : (o : Option GainMode) (g : GainMode) → m.Mode g ≡ modeIs o → o ≡ some g
+pub mode-is : (o : Option SlipMode) (g : SlipMode) → m.Mode g ≡ modeIs o → o ≡ some g
 mode-is none g e = cc
 mode-is (some h) g e = let q : g ≡ h = cc in ap some (sym q)
 
-pub no-mode : (o : Option GainMode) → m.Nothing ≡ modeIs o → o ≡ none
+pub no-mode : (o : Option SlipMode) → m.Nothing ≡ modeIs o → o ≡ none
 no-mode none e = refl
 no-mode (some h) e = cc
 

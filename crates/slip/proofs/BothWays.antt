@@ -16,7 +16,7 @@ use Rattle.number.specs.Fields.{before, behind}
 use Rattle.number.specs.Reading.{isDigit, digitsFrom, natural, isMinus, unsigned, withSign, whole}
 use Rattle.decimal.specs.Writing.{decimal, signed}
 use Rattle.decimal.proofs.ReadBack.{digits-at-most, whole-signed}
-use Rattle.frame.specs.declared.GainMode.{GainMode}
+use Rattle.slip.specs.declared.SlipMode.{SlipMode}
 use Rattle.replies.specs.declared.Refusal.the-variants.{StepOutOfRange, MalformedSlip}
 use Rattle.replies.specs.Refusal.{need, refusalOf}
 use Rattle.slip.specs.Slip.{stepText, stepLine, modeLine, linesForm, slipForm, isStep, inRange, readSlip}
@@ -186,7 +186,7 @@ pub slip-only : (s : List ℕ) (w : Wish) → slipForm s ≡ some w → Written 
 unfolding slipForm linesForm slipText
 slip-only s w e = cut (behind 10 s) refl e
   where
-    build : (t u : List ℕ) (l r : ℤ) (m : GainMode) → behind 10 s ≡ some t → behind 10 t ≡ some u
+    build : (t u : List ℕ) (l r : ℤ) (m : SlipMode) → behind 10 s ≡ some t → behind 10 t ≡ some u
         → stepLine (ascii "left=") (before 10 s) ≡ some l → stepLine (ascii "right=") (before 10 t) ≡ some r → modeLine u ≡ some m
         → Written s (record { left = record { 0 = l }; right = record { 0 = r }; mode = m })
     build t u l r m es et el er em =
@@ -207,7 +207,7 @@ slip-only s w e = cut (behind 10 s) refl e
           mode = em;
         }
 
-    modes : (t u : List ℕ) (l r : ℤ) (o : Option GainMode) → behind 10 s ≡ some t → behind 10 t ≡ some u
+    modes : (t u : List ℕ) (l r : ℤ) (o : Option SlipMode) → behind 10 s ≡ some t → behind 10 t ≡ some u
         → stepLine (ascii "left=") (before 10 s) ≡ some l → stepLine (ascii "right=") (before 10 t) ≡ some r → modeLine u ≡ o
         → Option·map (λ m. record { left = record { 0 = l }; right = record { 0 = r }; mode = m }) o ≡ some w → Written s w
     modes t u l r none es et el er em e = absurd (let z : _≡_ {A = ℕ} 0 1 = cc in omega arith)

@@ -12,8 +12,9 @@ use Rattle.replies.specs.declared.Refusal.the-variants.{StepOutOfRange, Malform
 use Rattle.replies.specs.Refusal.{Test, need, refusalOf}
 use Rattle.number.specs.Fields.{before, behind}
 use Rattle.number.specs.Reading.{unsigned, whole}
-use Rattle.frame.specs.declared.GainMode.{GainMode}
 use Rattle.frame.specs.declared.GainMode.the-variants.{Saturating, Wrapping}
+use Rattle.slip.specs.declared.SlipMode.{SlipMode}
+use Rattle.slip.specs.declared.SlipMode.the-variants.{Named, Unnamed}
 use Rattle.slip.specs.declared.Wish.{Wish}
 use Rattle.slip.specs.declared.ModeLine as m
 use Rattle.slip.specs.declared.Form as f
@@ -27,10 +28,11 @@ stepText s = cond (leb (length (unsigned s)) 5) (whole s) none
 unfoldable pub stepLine : List ℕ → List ℕ → Option ℤ
 stepLine name line = cond (startsWith name line) (stepText (drop (length name) line)) none
 
--- what follows the two numbers; nothing means N
-unfoldable pub modeLine : List ℕ → Option GainMode
+-- what follows the two numbers; nothing names no mode
+unfoldable pub modeLine : List ℕ → Option SlipMode
 modeLine rest =
-    cond (same rest []) (some Saturating) (cond (same rest (ascii "mode=W\n")) (some Wrapping) (cond (same rest (ascii "mode=N\n")) (some Saturating) none))
+    cond (same rest []) (some Unnamed)
+    (cond (same rest (ascii "mode=W\n")) (some (Named Wrapping)) (cond (same rest (ascii "mode=N\n")) (some (Named Saturating)) none))
 
 -- two lines and what follows them
 unfoldable pub linesForm : List ℕ → List ℕ → List ℕ → Option Wish
@@ -64,7 +66,7 @@ abbrev pub readSlip : List ℕ → s.Slip
 readSlip s = answer (slipForm s)
 
 -- a mode read, as the code answers it
-abbrev pub modeIs : Option GainMode → m.ModeLine
+abbrev pub modeIs : Option SlipMode → m.ModeLine
 modeIs none = m.the-variants.Nothing
 modeIs (some g) = m.the-variants.Mode g
 

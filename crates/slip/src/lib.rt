@@ -7,11 +7,17 @@ ghost use mathlib.Core.Path.{_≡_};
 ghost use Rattle.number.specs.Reading.{i32Of};
 ghost use Rattle.slip.specs.Slip as S;
 
+// The mode that a slip names, or that it names none: who knows the file resolves it then.
+pub enum SlipMode {
+    Named(GainMode),
+    Unnamed,
+}
+
 // What a slip of good form asks for: steps for either side, and how they meet the ends.
 pub struct Wish {
     pub left: GainSteps,
     pub right: GainSteps,
-    pub mode: GainMode,
+    pub mode: SlipMode,
 }
 
 // What a slip asks for, or the refusal.
@@ -21,11 +27,12 @@ pub enum Slip {
 }
 
 enum ModeLine {
-    Mode(GainMode),
+    Mode(SlipMode),
     Nothing,
 }
 
-enum Form {
+// A slip by its form alone.
+pub enum Form {
     Good(Wish),
     Malformed,
 }
@@ -46,18 +53,18 @@ fn step_line(name: &[u8], line: &[u8]) -> I32Field
     number::parse_whole(text)
 }
 
-// The mode that the rest of a slip names. No line means N.
+// The mode that the rest of a slip names, if there is a line.
 fn mode_line(rest: &[u8]) -> ModeLine
     ensures { λ r. ⌜ r ≡ S.modeIs (S.modeLine (now (rest .entry))) ⌝ }
 {
     if lists::equal(rest, b"") {
-        return ModeLine::Mode(GainMode::Saturating);
+        return ModeLine::Mode(SlipMode::Unnamed);
     }
     if lists::equal(rest, b"mode=W\n") {
-        return ModeLine::Mode(GainMode::Wrapping);
+        return ModeLine::Mode(SlipMode::Named(GainMode::Wrapping));
     }
     if lists::equal(rest, b"mode=N\n") {
-        return ModeLine::Mode(GainMode::Saturating);
+        return ModeLine::Mode(SlipMode::Named(GainMode::Saturating));
     }
     ModeLine::Nothing
 }
@@ -90,7 +97,7 @@ fn lines_form(first: &[u8], second: &[u8], rest: &[u8]) -> Form
 }
 
 // What a slip asks for, whatever the size of its numbers.
-fn slip_form(text: &[u8]) -> Form
+pub fn slip_form(text: &[u8]) -> Form
     ensures { λ r. ⌜ r ≡ S.formIs (S.slipForm (now (text .entry))) ⌝ }
 {
     let a = lists::find_byte(text, 0, b'\n');

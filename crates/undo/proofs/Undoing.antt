@@ -1,7 +1,8 @@
 -- Laws of undo: each refusal by the tests before it, and what is left when all of those hold.
 use Prim.Native.Nat.{ℕ, _≤_, _<_}
 use native.Mathlib.Omega.{arith}
-use mathlib.Core.Path.{_≡_, refl, ap, _∙_}
+use mathlib.Core.Path.{_≡_, refl, sym, ap, _∙_}
+use mathlib.Core.Logic.{⊎-elim}
 use mathlib.Core.Bool.{Bool, true, false}
 use mathlib.Core.Option.{none, some}
 use mathlib.Core.List.{List, []}
@@ -11,9 +12,9 @@ use Rattle.lists.specs.Write.{part}
 use Rattle.replies.specs.Limits.{countLimit}
 use Rattle.replies.specs.Refusal.{no, yes}
 use Rattle.replies.specs.declared.Refusal.{Refusal}
-use Rattle.replies.specs.declared.Refusal.the-variants.{FileTooLong, NoLeftGains, NotEditable, NoUndo, NoRoom}
-use Rattle.keys.specs.Keys.{isMp3gainKey}
-use Rattle.items.specs.Items.{without}
+use Rattle.replies.specs.declared.Refusal.the-variants.{FileTooLong, NoLeftGains, NotEditable, NoUndo, NoRoom, SecondUndo}
+use Rattle.keys.specs.Keys.{isMp3gainKey, undoKey}
+use Rattle.items.specs.Items.{without, isRepeated}
 use Rattle.items.proofs.Area.{count-items}
 use Rattle.items.proofs.ItemLaws.{count-without, area-without}
 use Rattle.ape.specs.Tag.{replaced}
@@ -28,6 +29,7 @@ use Rattle.edit.specs.Finish.{tagPlan}
 use Rattle.edit.proofs.Rewriting.{fits-tag}
 use Rattle.calls.specs.Gate.{passesGate, itemsOf}
 use lib.IntN.{ℤ}
+use Rattle.undo.proofs.Stored.{Unstored}
 use Rattle.frame.specs.declared.GainMode.{GainMode}
 use Rattle.calls.specs.Calls.{Levelled, adjusted, isThere, storedUndo, others, undoneLeft, undoneRight, undoPlan}
 
@@ -52,18 +54,25 @@ module _ (file left right : List ℕ) (room : ℕ) where
       undo-8 e = rw (le-leb _ _ l, g, e)
 
       module _ (p : passesGate file ≡ true) where
-        pub undo-10 : storedUndo (itemsOf file) ≡ none → undoPlan file left right room ≡ no NoUndo
+        undo-14 : isRepeated undoKey (itemsOf file) ≡ true → undoPlan file left right room ≡ no SecondUndo
         unfolding undoPlan
-        undo-10 e = rw (le-leb _ _ l, g, p, e)
+        undo-14 e = rw (le-leb _ _ l, g, p, e)
 
-        module _ (text : List ℕ) (u : storedUndo (itemsOf file) ≡ some text) where
+        undo-10 : isRepeated undoKey (itemsOf file) ≡ false → storedUndo (itemsOf file) ≡ none → undoPlan file left right room ≡ no NoUndo
+        unfolding undoPlan
+        undo-10 o e = rw (le-leb _ _ l, g, p, o, e)
+
+        pub undo-none : {r : Refusal} → Unstored (itemsOf file) r → undoPlan file left right room ≡ no r
+        undo-none {r} x = ⊎-elim (λ y. undo-14 (y .1) ∙ ap no (sym (y .0))) (λ y. undo-10 (y .1) (y .2) ∙ ap no (sym (y .0))) (x .why)
+
+        module _ (o : isRepeated undoKey (itemsOf file) ≡ false) (text : List ℕ) (u : storedUndo (itemsOf file) ≡ some text) where
           pub undo-5 : hasRoom room (length (replaced file (others (itemsOf file)))) ≡ false → undoPlan file left right room ≡ no NoRoom
           unfolding undoPlan
-          undo-5 e = rw (le-leb _ _ l, g, p, u, e)
+          undo-5 e = rw (le-leb _ _ l, g, p, o, u, e)
 
           pub undo-done : hasRoom room (length (replaced file (others (itemsOf file)))) ≡ true → undoPlan file left right room ≡ yes (undone file left right text)
           unfolding undoPlan
-          undo-done e = rw (le-leb _ _ l, g, p, u, e)
+          undo-done e = rw (le-leb _ _ l, g, p, o, u, e)
 
 -- what dropping the eight keys answers, where the file is fit for editing: only room can be lacking
 module _ {file : List ℕ} {start end count : ℕ} (p : Passed file start end count) (room : ℕ) where

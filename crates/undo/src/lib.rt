@@ -5,31 +5,41 @@ ghost use lib.ListN.{length};
 ghost use Rattle.lists.specs.Choice.{isSome};
 ghost use Rattle.lists.specs.Write.{over};
 ghost use Rattle.items.specs.Items.{parse, itemsIn};
-ghost use Rattle.calls.specs.Calls.{storedUndo, undoPlan};
+ghost use Rattle.calls.specs.Calls.{undoPlan};
 ghost use Rattle.level.specs.Answers.{levelAnswer, levelBytes, leftAfter, rightAfter};
-ghost use Rattle.undo.specs.Stored.{undoIs};
+ghost use Rattle.undo.specs.Stored.{undoOf, refusalFor};
 use ape_write::Written;
 use area_drop::Drop;
 use frame::GainMode;
 use frame::GainSteps;
 use gate::Editable;
+use items::Found;
 use level::LevelAnswer;
 use replies::Refusal;
 
-// What the first undo item of an area says.
+// What the undo item of an area says, or that there is none, or a second one.
 pub enum StoredUndo {
     Steps { left: i32, right: i32, wrap: bool },
     Nothing,
+    Twice,
 }
 
 // The undo numbers and the flag that the first undo item of a well-formed area holds.
 pub fn stored_undo(area: &[u8], count: usize) -> StoredUndo
     requires { ⌜ isSome (parse count (now area)) ≡ true ⌝ }
-    ensures { λ r. ⌜ r ≡ undoIs (storedUndo (itemsIn count (now (area .entry)))) ⌝ }
+    ensures { λ r. ⌜ r ≡ undoOf (itemsIn count (now (area .entry))) ⌝ }
 {
     let f = items::find(area, count, &keys::TAG_MP3GAIN_UNDO);
-    if !items::is_there(f) {
+    let Found::Value {
+        start: _,
+        length: _,
+        repeated,
+    } = f
+    else {
         return StoredUndo::Nothing;
+    };
+    if repeated {
+        return StoredUndo::Twice;
     }
     let text = items::value(area, f);
     let u = values::parse_undo_values(text);
@@ -40,7 +50,22 @@ pub fn stored_undo(area: &[u8], count: usize) -> StoredUndo
     }
 }
 
-// Every gain moved back by the stored numbers, and the file without the eight keys: refusals 1, 7, 8, 10 and 5. The reply is decided before the
+// How undo refuses where it has no numbers: refusals 14 and 10.
+fn refusal_of(u: StoredUndo) -> Refusal
+    ensures { λ r. ⌜ r ≡ refusalFor u ⌝ }
+{
+    match u {
+        StoredUndo::Steps {
+            left: _,
+            right: _,
+            wrap: _,
+        } => Refusal::NoUndo,
+        StoredUndo::Nothing => Refusal::NoUndo,
+        StoredUndo::Twice => Refusal::SecondUndo,
+    }
+}
+
+// Every gain moved back by the stored numbers, and the file without the eight keys: refusals 1, 7, 8, 14, 10 and 5. The reply is decided before the
 // first gain changes.
 pub fn undo(file: &[u8], left: &mut [u8], right: &mut [u8], out: &mut [u8]) -> LevelAnswer
     ensures { λ r. ⌜ (let plan = undoPlan (now (file .entry)) (now (left .entry)) (now (right .entry)) (length (now (out .entry))) in
@@ -64,7 +89,7 @@ pub fn undo(file: &[u8], left: &mut [u8], right: &mut [u8], out: &mut [u8]) -> L
         wrap,
     } = u
     else {
-        return LevelAnswer::Refused(Refusal::NoUndo);
+        return LevelAnswer::Refused(refusal_of(u));
     };
     let w = edit::drop_items(file, start, end, count, Drop::Mp3gain, b"", out);
     let Written::Done(n) = w else {

@@ -2,6 +2,7 @@
 // exact decibels, where it has f64, are a second reading of document 01.
 use decimal::Text;
 use frame::GainMode;
+use slip::SlipMode;
 use frame::GainSteps;
 use slip::Slip;
 use vectors::Replay;
@@ -153,7 +154,11 @@ fn slip_line(text: &[u8], at: usize) -> bool {
                 return false;
             }
             let mode = wish.mode;
-            is_flag(text, words::next_word(text, right), wraps(mode))
+            let flag = words::next_word(text, right);
+            match mode {
+                SlipMode::Named(m) => is_flag(text, flag, wraps(m)),
+                SlipMode::Unnamed => lists::starts_with(text, flag, b"-"),
+            }
         }
         Slip::Refused(r) => replies::number(r) as u64 == wanted,
     }

@@ -5,6 +5,7 @@
 //! accepted call does to the tag, the file and the gains is the published Rust's.
 
 use super::ape::{area_of, edge_files, headed_files, is_area, item, random_file, tag_of, written};
+use super::items::is_repeated;
 use super::{ape, flags, level, listing, shift, Case};
 use crate::ape::{find_ape_footer, parse_undo_values, parse_undo_wrap, reach, read_ape_tag, ApeItem, ApeTag};
 use crate::frame::{adjust_gain_value, read_u32_le, GainMode};
@@ -111,6 +112,9 @@ pub const EIGHT: [&str; 8] = [
     "REPLAYGAIN_ALBUM_PEAK",
     "REPLAYGAIN_ALGORITHM",
 ];
+
+/// The undo key as tools spell it, and a key that only begins alike.
+pub const UNDO_NAMES: [&str; 4] = ["MP3GAIN_UNDO", "mp3gain_undo", "Mp3Gain_Undo", "MP3GAIN_UNDO_"];
 
 /// Document 01's limits of refusal 6.
 fn fits(tag: &ApeTag) -> bool {
@@ -238,6 +242,9 @@ pub fn published_undo(file: &[u8], left: &[u8], right: &[u8]) -> Result<Levelled
         return Err(7);
     }
     let mut tag = gate(file).ok_or(8u32)?;
+    if is_repeated(&tag, "MP3GAIN_UNDO") {
+        return Err(14);
+    }
     let text = tag.get("MP3GAIN_UNDO").ok_or(10u32)?.to_string();
     let (left_steps, right_steps) = parse_undo_values(Some(&text));
     let wrap = parse_undo_wrap(Some(&text));
@@ -457,6 +464,20 @@ fn compare(c: &mut Compare) {
             undoes(c, &file, b"\x07", b"");
         }
     }
+    // A second undo item in each letter case, in each order, beside a key that only begins alike; then with the gate's refusal.
+    for (first, second) in UNDO_NAMES.iter().flat_map(|a| UNDO_NAMES.iter().map(move |b| (a, b))) {
+        for (one, two) in [("+003,-002,W", "+001,+001,N"), ("", ""), ("junk", "+003,-002,W"), ("+003,-002,N", "+003,-002,N")] {
+            let items = vec![item("AB", "c"), item(first, one), item("CD", "e"), item(second, two)];
+            let mut file = reach::replace(b"audio", &tag_of(items));
+            edits(c, &file, first.to_lowercase().as_bytes(), b"v");
+            edits(c, &file, b"ab", b"v");
+            undoes(c, &file, b"\x07\x80", b"\x00");
+            undoes(c, &file, b"", b"\x00");
+            let at = file.len() - 24;
+            file[at] ^= 1;
+            undoes(c, &file, b"\x07\x80", b"\x00");
+        }
+    }
     // More items than an edited tag may have are read, listed and replaced as before, and not edited.
     for n in [ITEMS + 1, 256] {
         let file = reach::replace(b"audio", &tag_of(some_items(n)));
@@ -527,7 +548,7 @@ fn record(r: &mut Record) {
             r.line(&[start, end].concat());
         }
     };
-    for _ in 0..220 {
+    for _ in 0..160 {
         let file = edited_file(&mut r.rng);
         let key = random_key(&mut r.rng).into_bytes();
         let value = random_value(&mut r.rng).into_bytes();

@@ -230,6 +230,17 @@ fn shift_items(items: &mut Vec<Item>, steps: i32, wrap: bool) {
     }
 }
 
+/// How many items have a key.
+fn matches(items: &[Item], key: &[u8]) -> usize {
+    items.iter().filter(|i| i.key.eq_ignore_ascii_case(key)).count()
+}
+
+/// The flag of the first undo item of a file that is fit for editing.
+pub fn stored_wrap(file: &[u8]) -> Option<bool> {
+    let (_, _, items) = gate(file).ok()?;
+    get(&items, "MP3GAIN_UNDO").map(|text| undo_of(text).2)
+}
+
 /// What a call on an area answers.
 pub fn answer(area: &[u8], count: usize, op: &Op) -> Result<Answer, u32> {
     let mut items = items_of(area, count).ok_or(12u32)?;
@@ -237,7 +248,7 @@ pub fn answer(area: &[u8], count: usize, op: &Op) -> Result<Answer, u32> {
     match op {
         Op::Get(key) => {
             let found = items.iter().find(|i| i.key.eq_ignore_ascii_case(key));
-            return Ok(Answer::Value(found.map(|i| i.value.clone())));
+            return Ok(Answer::Value(found.map(|i| (i.value.clone(), matches(&items, key) > 1))));
         }
         Op::GetUndoGain => {
             // As in `items`; `on_area` asks for what is not ASCII too.
@@ -329,6 +340,9 @@ pub fn level(file: &[u8], left: &[u8], right: &[u8], by: Level) -> Result<Levell
         return Err(7);
     }
     let (_, _, mut items) = gate(file)?;
+    if matches(&items, b"MP3GAIN_UNDO") > 1 {
+        return Err(14);
+    }
     let stored = get(&items, "MP3GAIN_UNDO").map(undo_of);
     if stored.is_some_and(|(_, _, wrap)| wrap != by.wrap) {
         return Err(9);
@@ -360,6 +374,9 @@ pub fn undo(file: &[u8], left: &[u8], right: &[u8]) -> Result<Levelled, u32> {
         return Err(7);
     }
     let (_, _, mut items) = gate(file)?;
+    if matches(&items, b"MP3GAIN_UNDO") > 1 {
+        return Err(14);
+    }
     let (x, y, wrap) = undo_of(get(&items, "MP3GAIN_UNDO").ok_or(10u32)?);
     drop_keys(&mut items, &EIGHT);
     Ok(Levelled { file: replaced(file, &items), left: moved(left, x, wrap), right: moved(right, y, wrap), peaks: 0 })

@@ -36,6 +36,7 @@ pub mod library {
             there: *mut u32,
             start: *mut usize,
             value_length: *mut usize,
+            repeated: *mut u32,
         ) -> u32;
         fn zib_get_undo_gain(area: *const u8, length: usize, count: usize, there: *mut u32, steps: *mut i32) -> u32;
         fn zib_set(
@@ -159,19 +160,24 @@ pub mod library {
         }
     }
 
-    /// The value as a part of the area.
-    pub fn get<'a>(area: &'a [u8], count: usize, key: &[u8]) -> Result<Option<&'a [u8]>, u32> {
-        let (mut there, mut start, mut length) = (7, 7, 7);
+    /// The value as a part of the area, and whether a later item has the key too.
+    pub fn get_both<'a>(area: &'a [u8], count: usize, key: &[u8]) -> Result<Option<(&'a [u8], bool)>, u32> {
+        let (mut there, mut start, mut length, mut repeated) = (7, 7, 7, 7);
         let reply = unsafe {
             let (a, k) = (area.as_ptr(), key.as_ptr());
-            zib_get(a, area.len(), count, k, key.len(), &mut there, &mut start, &mut length)
+            zib_get(a, area.len(), count, k, key.len(), &mut there, &mut start, &mut length, &mut repeated)
         };
-        match (reply, there, start, length) {
-            (0, 0, 0, 0) => Ok(None),
-            (0, 1, _, _) => Ok(Some(&area[start..start + length])),
-            (r, 7, 7, 7) if r != 0 => Err(r),
+        match (reply, there, start, length, repeated) {
+            (0, 0, 0, 0, 0) => Ok(None),
+            (0, 1, _, _, 0 | 1) => Ok(Some((&area[start..start + length], repeated == 1))),
+            (r, 7, 7, 7, 7) if r != 0 => Err(r),
             other => panic!("zib_get answers {other:?}"),
         }
+    }
+
+    /// The value alone.
+    pub fn get<'a>(area: &'a [u8], count: usize, key: &[u8]) -> Result<Option<&'a [u8]>, u32> {
+        get_both(area, count, key).map(|found| found.map(|(value, _)| value))
     }
 
     pub fn get_undo_gain(area: &[u8], count: usize) -> Result<Option<i32>, u32> {
@@ -269,7 +275,8 @@ pub enum Op {
 /// What a call answers: a value, an area with its count, or a number of steps.
 #[derive(Debug, Clone, PartialEq)]
 pub enum Answer {
-    Value(Option<Vec<u8>>),
+    /// A value, and whether a later item has the key too.
+    Value(Option<(Vec<u8>, bool)>),
     Area(usize, Vec<u8>),
     Steps(Option<i32>),
     /// Document 01 puts it outside the compared domain.
@@ -366,10 +373,18 @@ fn parsed(area: &[u8], count: usize) -> (Texts, ApeTag) {
     (texts, tag_of(parts.iter().map(|(k, v)| item(&texts.of(k), &texts.of(v))).collect()))
 }
 
+/// Whether a key has more than one item: document 02's request 2, which the published Rust has not.
+pub fn is_repeated(tag: &ApeTag, key: &str) -> bool {
+    tag.iter().filter(|i| i.key().eq_ignore_ascii_case(key)).count() > 1
+}
+
 /// What the published `ApeTag` does.
 fn applied(texts: Texts, tag: &mut ApeTag, op: &Op) -> Answer {
     match op {
-        Op::Get(key) => return Answer::Value(tag.get(&texts.of(key)).map(|v| texts.bytes(v))),
+        Op::Get(key) => {
+            let key = texts.of(key);
+            return Answer::Value(tag.get(&key).map(|v| (texts.bytes(v), is_repeated(tag, &key))));
+        }
         Op::GetUndoGain if tag.get(TAG_MP3GAIN_UNDO).is_some_and(|v| !v.is_ascii()) => return Answer::Outside,
         Op::GetUndoGain => return Answer::Steps(tag.get_undo_gain()),
         Op::Set(key, value) => tag.set(&texts.of(key), &texts.of(value)),
@@ -419,7 +434,9 @@ pub fn ours(area: &[u8], count: usize, op: &Op) -> Result<Answer, u32> {
         bytes.map(|b| Answer::Area(items.get(), b))
     };
     match op {
-        Op::Get(key) => library::get(area, count, key).map(|v| Answer::Value(v.map(<[u8]>::to_vec))),
+        Op::Get(key) => {
+            library::get_both(area, count, key).map(|v| Answer::Value(v.map(|(v, more)| (v.to_vec(), more))))
+        }
         Op::GetUndoGain => {
             let undo = library::get(area, count, TAG_MP3GAIN_UNDO.as_bytes());
             let steps = library::get_undo_gain(area, count);
@@ -913,7 +930,8 @@ fn record(r: &mut Record) {
         };
         let answer = match published(area, count, op) {
             Err(n) => vec![n.to_string()],
-            Ok(Answer::Value(v)) => vec!["0".to_string(), v.map_or("none".to_string(), |v| hex(&v))],
+            Ok(Answer::Value(None)) => vec!["0".to_string(), "none".to_string()],
+            Ok(Answer::Value(Some((v, more)))) => vec!["0".to_string(), hex(&v), (more as u8).to_string()],
             Ok(Answer::Steps(n)) => vec!["0".to_string(), n.map_or("none".to_string(), |n| n.to_string())],
             Ok(Answer::Area(n, bytes)) => vec!["0".to_string(), n.to_string(), hex(&bytes)],
             Ok(Answer::Outside) => return,

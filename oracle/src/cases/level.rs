@@ -4,10 +4,11 @@
 //! what they can: the stored undo accumulated, stored values shifted, items set and removed, gains adjusted, the tag replaced.
 
 use super::ape::{area_of, headed_files, item, random_file, tag_of};
-use super::edit::{around, finish, gate, in_domain, in_rooms, moved, some_items, Levelled, ITEMS, LIMIT};
+use super::edit::{around, finish, gate, in_domain, in_rooms, moved, some_items, Levelled, ITEMS, LIMIT, UNDO_NAMES};
 use super::flags;
+use super::items::is_repeated;
 use super::shift::{flag, full_tag, shifted, some_tag};
-use super::values::{any_i32, is_peak_key, nearly, turn, ENDS, FLAGS, MINMAX, NUMBERS, TRACK_GAIN};
+use super::values::{any_i32, is_peak_key, nearly, slip_form, turn, ENDS, FLAGS, MINMAX, NUMBERS, TRACK_GAIN};
 use crate::ape::{accumulate_undo, format_undo_value, parse_undo_wrap, reach, read_ape_tag, UNDONE_KEYS};
 use crate::frame::{adjust_gain_value, GainMode};
 use crate::tools::{hex, Bench, Compare, Record, Rng};
@@ -32,6 +33,54 @@ pub mod library {
             written: *mut usize,
             peaks: *mut usize,
         ) -> u32;
+        fn zib_resolve_mode(file: *const u8, length: usize, mode: u32, resolved: *mut u32) -> u32;
+        fn zib_level_by_slip(
+            slip: *const u8,
+            slip_length: usize,
+            file: *const u8,
+            length: usize,
+            left: *mut u8,
+            left_length: usize,
+            right: *mut u8,
+            right_length: usize,
+            out: *mut u8,
+            room: usize,
+            written: *mut usize,
+            peaks: *mut usize,
+        ) -> u32;
+    }
+
+    /// The number of the mode that this one is for a file.
+    pub fn resolve_mode(file: &[u8], mode: u32) -> Result<u32, u32> {
+        let mut resolved = 7;
+        // SAFETY: as below.
+        let reply = unsafe { zib_resolve_mode(file.as_ptr(), file.len(), mode, &mut resolved) };
+        if reply == 0 {
+            return Ok(resolved);
+        }
+        assert_eq!(resolved, 7, "a refused call changed a lent number");
+        Err(reply)
+    }
+
+    pub fn level_by_slip(
+        slip: &[u8],
+        file: &[u8],
+        left: &mut [u8],
+        right: &mut [u8],
+        out: &mut [u8],
+    ) -> Result<(usize, usize), u32> {
+        let (mut written, mut peaks) = (7, 7);
+        // SAFETY: as below.
+        let reply = unsafe {
+            let (f, l, r, o) = (file.as_ptr(), left.as_mut_ptr(), right.as_mut_ptr(), out.as_mut_ptr());
+            let (n, m, k) = (file.len(), left.len(), right.len());
+            zib_level_by_slip(slip.as_ptr(), slip.len(), f, n, l, m, r, k, o, out.len(), &mut written, &mut peaks)
+        };
+        if reply == 0 {
+            return Ok((written, peaks));
+        }
+        assert_eq!((written, peaks), (7, 7), "a refused call changed a lent number");
+        Err(reply)
     }
 
     /// The length of the file and the number of its peak items.
@@ -86,6 +135,9 @@ pub fn published(file: &[u8], left: &[u8], right: &[u8], by: Level) -> Option<Re
         return Some(Err(7));
     }
     let Some(tag) = gate(file) else { return Some(Err(8)) };
+    if is_repeated(&tag, UNDO) {
+        return Some(Err(14));
+    }
     in_domain(file).then_some(())?;
     let stored = tag.get(UNDO);
     if stored.is_some() && parse_undo_wrap(stored) != by.wrap {
@@ -123,6 +175,112 @@ fn both(c: &mut Compare, file: &[u8], left: &[u8], right: &[u8], by: Level) {
     let what = format!("level of {left:?} by {} and {right:?} by {}, {},", by.left, by.right, flag(by.wrap));
     let theirs = |s: &[u8]| published(s, left, right, by);
     c.bytes(&what, file, theirs, |s| theirs(s).map(|_| ours(s, left, right, by)));
+}
+
+// ---- level by a slip: document 02's request 6
+
+/// The flag of the first undo item of a file that is fit for editing.
+fn stored_wrap(file: &[u8]) -> Option<bool> {
+    if flags::in_file(file) {
+        return flags::stored_wrap(file);
+    }
+    gate(file).and_then(|tag| tag.get(UNDO).map(|text| parse_undo_wrap(Some(text))))
+}
+
+fn published_by_slip(slip: &[u8], file: &[u8], left: &[u8], right: &[u8]) -> Option<Result<Levelled, u32>> {
+    let Some((x, y, named)) = slip_form(slip) else { return Some(Err(13)) };
+    published(file, left, right, by(x, y, named.or_else(|| stored_wrap(file)).unwrap_or(true)))
+}
+
+fn by_slip(c: &mut Compare, slip: &[u8], file: &[u8], left: &[u8], right: &[u8]) {
+    let ours = |s: &[u8]| {
+        in_rooms(left, right, 2 * s.len() + 300, |l, r, out| library::level_by_slip(slip, s, l, r, out))
+    };
+    let Some(answer) = published_by_slip(slip, file, left, right) else { return };
+    if answer == ours(file) {
+        c.inputs += 1;
+        return;
+    }
+    let what = format!("level of {left:?} and {right:?} by the slip {:?}", String::from_utf8_lossy(slip));
+    let theirs = |s: &[u8]| published_by_slip(slip, s, left, right);
+    c.bytes(&what, file, theirs, |s| theirs(s).map(|_| ours(s)));
+}
+
+fn resolves(c: &mut Compare, file: &[u8]) {
+    // An undo text that is not ASCII is outside the compared domain of the flag.
+    if !in_domain(file) {
+        return;
+    }
+    for mode in 0..5 {
+        let theirs = |s: &[u8]| match mode {
+            0 | 1 => Ok(mode),
+            2 => Ok(stored_wrap(s).unwrap_or(true) as u32),
+            _ => Err(13),
+        };
+        c.bytes(&format!("resolve_mode of {mode}"), file, theirs, |s| library::resolve_mode(s, mode));
+    }
+}
+
+/// Slips of every form, good ones and not.
+const SLIPS: [&str; 14] = [
+    "left=3\nright=3\n",
+    "left=3\nright=3\nmode=W\n",
+    "left=3\nright=3\nmode=N\n",
+    "left=-2\nright=5\n",
+    "left=-2\nright=5\nmode=W\n",
+    "left=-2\nright=5\nmode=N\n",
+    "left=256\nright=0\n",
+    "left=0\nright=-256\nmode=W\n",
+    "left=3\nright=3\nmode=\n",
+    "left=3\nright=3\nmode=w\n",
+    "left=3\nright=3\nmode=W",
+    "right=3\nleft=3\n",
+    "left=3\n",
+    "",
+];
+
+/// Files without an undo item, with one, and with two, in each letter case, of either flag and of junk; one that is not fit for editing.
+fn undo_files() -> Vec<Vec<u8>> {
+    let texts = ["+003,-002,W", "+003,-002,N", "junk", "", "1,2,w", "1,2", "+32767,0,W", "+32767,0,N"];
+    let mut files = vec![vec![], b"audio".to_vec(), reach::replace(b"audio", &tag_of(vec![item("AB", "c")]))];
+    for name in UNDO_NAMES {
+        for text in texts {
+            files.push(reach::replace(b"audio", &tag_of(vec![item("AB", "c"), item(name, text)])));
+            for second in texts {
+                let items = vec![item("mp3GAIN_undo", text), item("AB", "c"), item(name, second)];
+                files.push(reach::replace(b"audio", &tag_of(items)));
+            }
+        }
+    }
+    files.push(refused_by(true, false, false, false, false));
+    files
+}
+
+fn compare_slips(c: &mut Compare) {
+    let (left, right) = (&b"\x0A\x00\xFC\x80"[..], &b"\x07\xFF"[..]);
+    for file in undo_files() {
+        resolves(c, &file);
+        for slip in SLIPS {
+            by_slip(c, slip.as_bytes(), &file, left, right);
+            by_slip(c, slip.as_bytes(), &file, left, &[]);
+            by_slip(c, slip.as_bytes(), &file, &[], right);
+        }
+    }
+    for _ in 0..c.count / 40 {
+        let file = some_file(&mut c.rng);
+        resolves(c, &file);
+        let (left, right) = (some_gains(&mut c.rng, 6), some_gains(&mut c.rng, 3));
+        let mut slip = c.rng.pick(&SLIPS).as_bytes().to_vec();
+        if c.rng.below(4) == 0 {
+            slip = nearly(&mut c.rng, &slip);
+        }
+        by_slip(c, &slip, &file, &left, &right);
+    }
+    // 13 comes before 1, and 1 before 2.
+    let file = vec![0x55; LIMIT + 1];
+    for slip in ["left=3\n", "left=256\nright=0\n", "left=3\nright=3\n"] {
+        by_slip(c, slip.as_bytes(), &file, left, right);
+    }
 }
 
 // ---- inputs
@@ -177,10 +335,14 @@ pub fn some_gains(rng: &mut Rng, most: usize) -> Vec<u8> {
 }
 
 /// A file that every test of level but the named ones passes, where the flag is N, the left gains are there and the steps are small.
-/// 8: version 1000. 9: the stored flag is W. 11: a stored number at its end. 6: 41 items, and MINMAX to come.
-fn refused_by(eight: bool, nine: bool, eleven: bool, six: bool) -> Vec<u8> {
-    let mut items: Vec<_> = (0..if six { ITEMS - 1 } else { 2 }).map(|i| item(&format!("{i:02X}"), "")).collect();
-    items.push(item(UNDO, &format!("{},+000,{}", if eleven { "+32767" } else { "+003" }, flag(nine))));
+/// 8: version 1000. 14: a second undo item. 9: the stored flag is W. 11: a stored number at its end. 6: 41 items, and MINMAX to come.
+fn refused_by(eight: bool, fourteen: bool, nine: bool, eleven: bool, six: bool) -> Vec<u8> {
+    let others = if six { ITEMS - 1 - fourteen as usize } else { 2 };
+    let mut items: Vec<_> = (0..others).map(|i| item(&format!("{i:02X}"), "")).collect();
+    if fourteen {
+        items.push(item("mp3gain_undo", "+001,+001,N"));
+    }
+    items.insert(0, item(UNDO, &format!("{},+000,{}", if eleven { "+32767" } else { "+003" }, flag(nine))));
     let mut file = reach::replace(b"audio", &tag_of(items));
     if eight {
         let at = file.len() - 24;
@@ -192,12 +354,23 @@ fn refused_by(eight: bool, nine: bool, eleven: bool, six: bool) -> Vec<u8> {
 pub fn compare(c: &mut Compare) {
     let (left, right) = (&b"\x0A\x00\xFC\x80"[..], &b"\x07\xFF"[..]);
     // Every set of reasons at once, with and without room: which one is given. Room is tested in `ours`.
-    for reasons in 0..64 {
+    for reasons in 0..128 {
         let has = |bit: u32| reasons >> bit & 1 == 1;
-        let file = refused_by(has(0), has(1), has(2), has(3));
-        let gains = if has(4) { &[][..] } else { left };
+        let file = refused_by(has(0), has(1), has(2), has(3), has(4));
+        let gains = if has(5) { &[][..] } else { left };
         for (x, y) in [(-1, -1), (-1, 2), (-1, 256)] {
-            both(c, &file, gains, right, by(if has(5) { -256 } else { x }, y, false));
+            both(c, &file, gains, right, by(if has(6) { -256 } else { x }, y, false));
+        }
+    }
+    // A second undo item in each letter case, beside a key that only begins alike, by either flag.
+    for (first, second) in UNDO_NAMES.iter().flat_map(|a| UNDO_NAMES.iter().map(move |b| (a, b))) {
+        for (one, two) in [("+003,-002,W", "+001,+001,N"), ("", ""), ("junk", "+003,-002,W"), ("+32767,0,N", "0,0,N")] {
+            let items = vec![item("AB", "c"), item(first, one), item("CD", "e"), item(second, two)];
+            let file = reach::replace(b"audio", &tag_of(items));
+            for wrap in [false, true] {
+                both(c, &file, left, right, by(-1, -1, wrap));
+                both(c, &file, left, right, by(2, -1, wrap));
+            }
         }
     }
     // Document 01's figure, and stored values of each kind by every step, equal and not.
@@ -298,6 +471,7 @@ pub fn compare(c: &mut Compare) {
         let step = turn(i);
         both(c, &file, &left, &right, Level { left: step, right: step, ..call });
     }
+    compare_slips(c);
     // The limit of 16,777,216 bytes, and one past it: files and results.
     let file = vec![0x55; LIMIT + 1];
     let more = ours(b"", left, right, by(1, 2, false)).unwrap().file.len();
@@ -328,20 +502,20 @@ pub fn record(r: &mut Record) {
     line(r, b"", b"\x0A\x00", b"", by(5, 5, false), 4096);
     line(r, b"", b"\xFC", b"", by(5, 5, false), 4096);
     // Each refusal that a short file can have, alone and with the next one; 1 needs a file of more than 16 MiB.
-    for reasons in [0, 1, 2, 4, 8, 16, 32, 48, 17, 3, 6, 12, 63] {
+    for reasons in [0, 1, 2, 4, 8, 16, 32, 64, 96, 33, 3, 6, 12, 24, 127] {
         let has = |bit: u32| reasons >> bit & 1 == 1;
-        let file = refused_by(has(0), has(1), has(2), has(3));
-        let gains = if has(4) { &[][..] } else { left };
+        let file = refused_by(has(0), has(1), has(2), has(3), has(4));
+        let gains = if has(5) { &[][..] } else { left };
         line(
             r,
             &file,
             gains,
             right,
-            by(if has(5) { -256 } else { -1 }, -1, false),
-            if reasons == 63 { 0 } else { 4096 },
+            by(if has(6) { -256 } else { -1 }, -1, false),
+            if reasons == 127 { 0 } else { 4096 },
         );
     }
-    let file = refused_by(false, false, false, false);
+    let file = refused_by(false, false, false, false, false);
     let need = published(&file, left, right, by(1, 2, false)).unwrap().unwrap().file.len();
     for room in [0, need - 1, need, need + 1] {
         line(r, &file, left, right, by(1, 2, false), room);
@@ -373,6 +547,29 @@ pub fn record(r: &mut Record) {
     }
     for file in &flags::small_files()[..3] {
         line(r, file, left, right, by(5, 5, true), 4096);
+    }
+    // `by_slip SLIP FILE LEFT RIGHT REPLY FILE LEFT RIGHT PEAKS`: slips of each form, with a file of each number of undo items.
+    for (i, file) in undo_files().iter().enumerate().filter(|(i, _)| *i < 3 || i % 9 == 3 || i % 72 == 4) {
+        for slip in SLIPS.iter().skip(i / 9 % 3).step_by(if i < 3 { 1 } else { 5 }) {
+            let Some(answer) = published_by_slip(slip.as_bytes(), file, left, right) else { continue };
+            let (reply, gives) = answer.map_or_else(
+                |n| (n, Levelled { file: vec![], left: left.to_vec(), right: right.to_vec(), peaks: 0 }),
+                |a| (0, a),
+            );
+            let words: [&dyn ToString; 10] = [
+                &"by_slip",
+                &hex(slip.as_bytes()),
+                &hex(file),
+                &hex(left),
+                &hex(right),
+                &reply,
+                &hex(&gives.file),
+                &hex(&gives.left),
+                &hex(&gives.right),
+                &gives.peaks,
+            ];
+            r.line(&words.map(|w| w.to_string()));
+        }
     }
 }
 

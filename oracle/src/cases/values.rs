@@ -19,7 +19,7 @@ pub const CASE: Case = Case { name: "values", record, compare, bench };
 /// The exported functions, as Rust, and safe wrappers.
 mod library {
     extern "C" {
-        fn zib_parse_undo(text: *const u8, length: usize, left: *mut i32, right: *mut i32, wrap: *mut u32) -> u32;
+        fn zib_parse_undo(text: *const u8, length: usize, left: *mut i32, right: *mut i32, mode: *mut u32) -> u32;
         fn zib_format_undo_value(
             left: i32,
             right: i32,
@@ -56,7 +56,7 @@ mod library {
             room: usize,
             written: *mut usize,
         ) -> u32;
-        fn zib_parse_slip(text: *const u8, length: usize, left: *mut i32, right: *mut i32, wrap: *mut u32) -> u32;
+        fn zib_parse_slip(text: *const u8, length: usize, left: *mut i32, right: *mut i32, mode: *mut u32) -> u32;
     }
 
     pub fn parse_undo(text: &[u8]) -> ((i32, i32), bool) {
@@ -107,12 +107,16 @@ mod library {
         }
     }
 
-    pub fn parse_slip(text: &[u8]) -> Result<(i32, i32, bool), u32> {
-        let (mut left, mut right, mut wrap) = (1007, 1008, 1009);
-        match unsafe { zib_parse_slip(text.as_ptr(), text.len(), &mut left, &mut right, &mut wrap) } {
-            0 => Ok((left, right, wrap == 1)),
+    /// The steps and the flag, if the slip names one.
+    pub fn parse_slip(text: &[u8]) -> Result<(i32, i32, Option<bool>), u32> {
+        let (mut left, mut right, mut mode) = (1007, 1008, 1009);
+        match unsafe { zib_parse_slip(text.as_ptr(), text.len(), &mut left, &mut right, &mut mode) } {
+            0 => {
+                assert!(mode <= 2, "zib_parse_slip answers mode {mode}");
+                Ok((left, right, (mode < 2).then_some(mode == 1)))
+            }
             reply => {
-                assert_eq!((left, right, wrap), (1007, 1008, 1009), "a refused call changed a lent number");
+                assert_eq!((left, right, mode), (1007, 1008, 1009), "a refused call changed a lent number");
                 Err(reply)
             }
         }
@@ -216,7 +220,8 @@ pub fn is_gain(text: &[u8]) -> bool {
     (1..=4).contains(&before.len()) && after.len() == 6 && digits(before) && digits(after)
 }
 
-fn slip_reading(text: &[u8]) -> Result<(i32, i32, bool), u32> {
+/// A slip by its form: the steps, whatever their size, and the flag, if it names one (document 02's request 6).
+pub fn slip_form(text: &[u8]) -> Option<(i32, i32, Option<bool>)> {
     fn step(line: &[u8], name: &[u8]) -> Option<i32> {
         let text = line.strip_prefix(name)?;
         let digits = if let [b'+' | b'-', rest @ ..] = text { rest } else { text };
@@ -225,16 +230,18 @@ fn slip_reading(text: &[u8]) -> Result<(i32, i32, bool), u32> {
         }
         std::str::from_utf8(text).ok()?.parse().ok()
     }
-    fn form(text: &[u8]) -> Option<(i32, i32, bool)> {
-        let lines: Vec<&[u8]> = text.split(|&b| b == b'\n').collect();
-        let (first, second, wrap) = match lines[..] {
-            [a, b, b""] | [a, b, b"mode=N", b""] => (a, b, false),
-            [a, b, b"mode=W", b""] => (a, b, true),
-            _ => return None,
-        };
-        Some((step(first, b"left=")?, step(second, b"right=")?, wrap))
-    }
-    let (left, right, wrap) = form(text).ok_or(13u32)?;
+    let lines: Vec<&[u8]> = text.split(|&b| b == b'\n').collect();
+    let (first, second, wrap) = match lines[..] {
+        [a, b, b""] => (a, b, None),
+        [a, b, b"mode=N", b""] => (a, b, Some(false)),
+        [a, b, b"mode=W", b""] => (a, b, Some(true)),
+        _ => return None,
+    };
+    Some((step(first, b"left=")?, step(second, b"right=")?, wrap))
+}
+
+fn slip_reading(text: &[u8]) -> Result<(i32, i32, Option<bool>), u32> {
+    let (left, right, wrap) = slip_form(text).ok_or(13u32)?;
     if left.abs() > 255 || right.abs() > 255 {
         return Err(2);
     }
@@ -803,7 +810,7 @@ fn record(r: &mut Record) {
         let value = format_minmax(r.rng.next() as u8, r.rng.next() as u8);
         line(r, MINMAX, value.as_bytes(), steps);
     }
-    // `slip TEXT REPLY LEFT RIGHT FLAG`: not in the published source, by the second reading of document 01.
+    // `slip TEXT REPLY LEFT RIGHT FLAG`, the flag `-` where the slip names none: not in the published source, by the second reading.
     let mut slips: Vec<Vec<u8>> = Vec::new();
     for _ in 0..600 {
         let (a, b) = (any_i32(&mut r.rng) % 300, any_i32(&mut r.rng) % 300);
@@ -812,8 +819,9 @@ fn record(r: &mut Record) {
         slips.push(text.into());
     }
     for text in slips {
-        let (reply, (left, right, wrap)) = slip_reading(&text).map_or_else(|e| (e, (0, 0, false)), |w| (0, w));
-        r.line(&words(&[&"slip", &hex(&text), &reply, &left, &right, &(wrap as u8)]));
+        let (reply, (left, right, wrap)) = slip_reading(&text).map_or_else(|e| (e, (0, 0, Some(false))), |w| (0, w));
+        let flag = wrap.map_or("-".to_string(), |w| (w as u8).to_string());
+        r.line(&words(&[&"slip", &hex(&text), &reply, &left, &right, &flag]));
     }
     // `db STEPS FLAG MILLIONTHS REST`: the Rust has f64, so exactly, by document 01's step.
     let random: Vec<i32> = (0..100).map(|_| any_i32(&mut r.rng)).collect();

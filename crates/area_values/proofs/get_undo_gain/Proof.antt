@@ -25,7 +25,7 @@ returns c =
     let e : p .parse-undo-values .result ≡ parseUndo (valueOf s (f .find .result)) = p .parse-undo-values .ensures ∙ ap parseUndo (v .value .ensures) in
     ap Steps (toZ-ofZ fits)
     ∙ ap (λ u. Steps (u .left)) e
-    ∙ from-value s (f .find .result) _ _ (k .enum-told .given .1)
+    ∙ from-value s (f .find .result) _ _ _ (k .enum-told .given .1)
     ∙ ap (gainFrom s) (f .find .ensures)
     ∙ undo-is s (b .before .args .count) (λ i. omega (arith, b .shared-slice-known .given i))
 

@@ -6,7 +6,8 @@ use borrow.Author.Needs.{needs}
 use lib.ListN.{length}
 use Rattle.lists.specs.Write.{over}
 use Rattle.calls.specs.Gate.{itemsOf}
-use Rattle.calls.specs.Calls.{Level, countOf, isPeakKey, newItems}
+use Rattle.items.specs.Items.{countOf}
+use Rattle.calls.specs.Calls.{Level, isPeakKey, newItems}
 use Rattle.ape_write.specs.Answers.{writtenBytes}
 use Rattle.edit.specs.Finish.{tagPlan}
 use Rattle.level_items.specs.Items.{rangedItems}

@@ -5,10 +5,10 @@ use Prim.Native.Nat.{_+_, _-_, _≤_}
 use native.Mathlib.Omega.{arith}
 use borrow.Author.Needs.{needs}
 use lib.ListN.{drop}
-use Rattle.items.specs.Items.{itemsIn}
+use Rattle.items.specs.Items.{itemsIn, countOf}
 use Rattle.items.proofs.Loops.{Left, begin, Turn, turn, never, items-none}
-use Rattle.calls.specs.Calls.{countOf, isPeakKey}
-use Rattle.level_items.proofs.Peaks.{count-none, count-one, count-next}
+use Rattle.calls.specs.Calls.{isPeakKey}
+use Rattle.items.proofs.ItemLaws.{count-none, count-one, count-next}
 use Rattle.level_items.proofs.count_peaks.Statement.{statement}
 use Rattle.level_items.proofs.count_peaks.Tie as tie
 

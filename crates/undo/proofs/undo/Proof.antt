@@ -13,14 +13,14 @@ use Rattle.lists.specs.Write.{over}
 use Rattle.frame.specs.Gain.{modeOf}
 use Rattle.values.proofs.ReadBack.{undo-small}
 use Rattle.calls.specs.Gate.{itemsOf}
-use Rattle.calls.specs.Calls.{isThere, storedUndo, others}
+use Rattle.calls.specs.Calls.{isThere, others}
 use Rattle.gate.specs.Gate.{Passed}
 use Rattle.gate.proofs.Gates.{gate-unfit, gate-passed}
 use Rattle.level.specs.declared.LevelAnswer.the-variants.{Done}
-use Rattle.undo.specs.Stored.{undoIs}
+use Rattle.undo.specs.Stored.{undoOf}
 use Rattle.level.proofs.Levelling.{there, not-there}
-use Rattle.undo.proofs.Stored.{undo-nothing, Stored, undo-steps}
-use Rattle.undo.proofs.Undoing.{undo-1, undo-7, undo-8, undo-10, undo-5, undo-done, done-fits, refused-room, moved-alike}
+use Rattle.undo.proofs.Stored.{undo-unstored, Stored, undo-steps}
+use Rattle.undo.proofs.Undoing.{undo-1, undo-7, undo-8, undo-none, undo-5, undo-done, done-fits, refused-room, moved-alike}
 use Rattle.undo.proofs.undo.Statement.{statement}
 use Rattle.undo.proofs.undo.Tie as tie
 
@@ -49,19 +49,20 @@ passed : (c : tie.After-known-told) → Passed (c .before .before .before .befor
 passed c = gate-passed (c .before .before .before .before .before .before .before .before .before .before .args .file .now) (c .before .before .before .gate .result) (c .before .g .given .0 .0) (c .before .g .given .0 .1 .0) (c .before .g .given .0 .1 .1 .0) (c .before .before .before .gate .ensures) (c .before .g .given .1)
 
 -- the undo that it stores
-stored : (c : tie.After-stored-undo) → c .stored-undo .result ≡ undoIs (storedUndo (itemsOf (c .before .before .before .before .before .before .before .before .before .before .before .before .args .file .now)))
-stored c = c .stored-undo .ensures ∙ ap (λ ts. undoIs (storedUndo ts)) (passed (c .before .before) .items)
+stored : (c : tie.After-stored-undo) → c .stored-undo .result ≡ undoOf (itemsOf (c .before .before .before .before .before .before .before .before .before .before .before .before .args .file .now))
+stored c = c .stored-undo .ensures ∙ ap undoOf (passed (c .before .before) .items)
 
 returns-4 : tie.Need-returns-4
 returns-4 c =
     let p = c .before .before in
+    let why = undo-unstored _ (stored p) (c .before .match2 .keys2) in
     let k = p .before .before in
     let e = k .before .before .before .before in
     let g = k .before .before .before .before .before .before .before .before .before .before .args in
-    rw (undo-10 (g .file .now) (g .left .now) (g .right .now) (length (g .out .now)) (e .before .if1 .left) (gains e) (passed k .passes) (undo-nothing _ (stored p) (c .enum-told2 .given .1))) (refl, refl, refl, refl)
+    rw (undo-none (g .file .now) (g .left .now) (g .right .now) (length (g .out .now)) (e .before .if1 .left) (gains e) (passed k .passes) why, c .refusal-of .ensures) (refl, refl, refl, refl)
 
 -- its text, numbers and flag
-text : (c : tie.After-known-told2) → Stored (storedUndo (itemsOf (c .before .before .before .before .before .before .before .before .before .before .before .before .before .before .before .args .file .now))) (c .before .u .given .0 .0) (c .before .u .given .0 .1 .0) (c .before .u .given .0 .1 .1 .0)
+text : (c : tie.After-known-told2) → Stored (itemsOf (c .before .before .before .before .before .before .before .before .before .before .before .before .before .before .before .args .file .now)) (c .before .u .given .0 .0) (c .before .u .given .0 .1 .0) (c .before .u .given .0 .1 .1 .0)
 text c = undo-steps _ (stored (c .before .before .before)) (c .before .u .given .1)
 
 returns-5 : tie.Need-returns-5
@@ -72,8 +73,8 @@ returns-5 c =
     let k = c .before .before .before .before .before .before .before .before .before .before .before .before in
     let e = k .before .before .before .before in
     let g = k .before .before .before .before .before .before .before .before .before .before .args in
-    let (b, nothing) = refused-room (passed k) (length (g .out .now)) (d .ensures .0) (c .enum-told3 .given .1) in
-    rw (undo-5 (g .file .now) (g .left .now) (g .right .now) (length (g .out .now)) (e .before .if1 .left) (gains e) (passed k .passes) (t .text) (t .is) b)
+    let (b, nothing) = refused-room (passed k) (length (g .out .now)) (d .ensures .0) (c .enum-told2 .given .1) in
+    rw (undo-5 (g .file .now) (g .left .now) (g .right .now) (length (g .out .now)) (e .before .if1 .left) (gains e) (passed k .passes) (t .once) (t .text) (t .is) b)
     (refl, d .ensures .1 ∙ ap (λ (w : List ℕ). over w (g .out .now)) nothing, refl, refl)
 
 returns-6 : tie.Need-returns-6
@@ -90,7 +91,7 @@ returns-6 c =
     let hr : SFits w32 (u .1 .0) = rw (t .right-is) (record { sfits = undo-small (t .text) .1 }) in
     let ml = c .before .before .before .before .before .before .before .before .from-wrap .ensures ∙ ap modeOf (t .wrap-is) in
     let mr = c .before .before .before .from-wrap2 .ensures ∙ ap modeOf (t .wrap-is) in
-    rw (undo-done (g .file .now) (g .left .now) (g .right .now) (length (g .out .now)) (e .before .if1 .left) (gains e) (passed k .passes) (t .text) (t .is) b) (
+    rw (undo-done (g .file .now) (g .left .now) (g .right .now) (length (g .out .now)) (e .before .if1 .left) (gains e) (passed k .passes) (t .once) (t .text) (t .is) b) (
       ap (λ (m : ℕ). Done m 0) n,
       d .ensures .1 ∙ ap (λ (w : List ℕ). over w (g .out .now)) by,
       moved-alike _ _ _ _ (g .left .now) (c .before .before .before .before .before .before .before .adjust-gains .ensures) ml (toZ-ofZ hl ∙ t .left-is),
@@ -112,7 +113,7 @@ undo-spec =
     (λ c. let p = passed c in omega (arith, p .within))
     (λ c κs. passed (c .before) .good)
     (λ c. search needs)
-    (λ c. search needs)
+    (λ c κs. search needs)
     returns-4
     (λ c. search needs)
     (λ c κs. let k = c .before .before .before .before .before .before .before in (passed k, k .before .before .before .before .before .if1 .left))

@@ -3,8 +3,8 @@ use mir.Facts.{toZ-ofZ}
 use mir.Syntax.{w32}
 use mir.Val.{SFits}
 use borrow.Author.Needs.{needs}
-use Rattle.c_values.proofs.zib_parse_slip.Statement.{statement}
-use Rattle.c_values.proofs.zib_parse_slip.Tie as tie
+use Rattle.c_slip.proofs.zib_parse_slip.Statement.{statement}
+use Rattle.c_slip.proofs.zib_parse_slip.Tie as tie
 
 returns : tie.Need-returns
 returns c =
