@@ -73,8 +73,8 @@ uint32_t zib_undo(
     const uint8_t *file, size_t file_len, uint8_t *left, size_t left_len, uint8_t *right, size_t right_len, uint8_t *out,
     size_t out_len, size_t *written, size_t *peaks);
 
-/* Moves the ranges and the gain texts in an area by so many steps, whatever the type of their items; with `wrap`, a range that would leave
- * 0..255 is dropped. A value that is moved counts as set. The new area goes to the front of `out`, the number of its items to `items` and
+/* Moves the ranges, the gain texts and the peaks in an area by so many steps, whatever the type of their items; with `wrap`, a range that
+ * would leave 0..255 is dropped. A value that is moved counts as set. The new area goes to the front of `out`, the number of its items to `items` and
  * its length to `written`. An output of area_len + 32 * count bytes is long enough. Refusals 12, 2 and 5. */
 uint32_t zib_shift_stored_gain(
     const uint8_t *area, size_t area_len, size_t count, int32_t steps, bool wrap, uint8_t *out, size_t out_len, size_t *items,
@@ -237,8 +237,9 @@ bool zib_range_wraps_out(const uint8_t *key, size_t key_len, const uint8_t *valu
  * is left over, in units of 10^-15 dB. */
 uint32_t zib_steps_to_db(int32_t steps, uint32_t *minus, uint64_t *millionths, uint64_t *rest);
 
-/* Moves one stored value by so many steps: `moved` is 1 and the new text, of at most 32 bytes, goes to `out`, or `moved` and `written` are
- * 0 and the value stays as it is. Refusal 5. */
+/* Moves one stored value, a range, a gain text or a peak, by so many steps: `moved` is 1 and the new text, of at most 32 bytes, goes to
+ * `out`, or `moved` and `written` are 0 and the value stays as it is. A peak text of 1 or 2 digits, a point and 6 digits is moved to the
+ * nearest millionth, a half going up, unless it would pass 99.999999. Refusal 5. */
 uint32_t zib_shift_stored_value(
     const uint8_t *key, size_t key_len, const uint8_t *value, size_t value_len, int32_t steps, uint32_t *moved, uint8_t *out,
     size_t out_len, size_t *written);

@@ -76,6 +76,7 @@ static void values(void)
     CHECK(zib_steps_to_db(-2, &flag, &millionths, &rest) == 0 && flag == 1 && millionths == 3010299 && rest == 956639812);
     CHECK(zib_shift_stored_value(TEXT("MP3GAIN_MINMAX"), TEXT("094,168"), 100, &flag, out, sizeof out, &n) == 0 && flag == 1 && IS(out, n, "194,255"));
     CHECK(zib_shift_stored_value(TEXT("REPLAYGAIN_TRACK_PEAK"), TEXT("0.9"), 1, &flag, out, sizeof out, &n) == 0 && flag == 0);
+    CHECK(zib_shift_stored_value(TEXT("REPLAYGAIN_TRACK_PEAK"), TEXT("1.000000"), 1, &flag, out, sizeof out, &n) == 0 && flag == 1 && IS(out, n, "1.189207"));
 }
 
 #define FIVES "left=5\nright=5\n"

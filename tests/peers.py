@@ -163,6 +163,23 @@ for name, channels, rate, options in kinds:
     song.close()
     check(run(loop, "level", path + ".taglib.mp3", "1", "1").returncode == 0, f"{name}: level refuses what TagLib wrote")
 
+# A peak that mp3gain measured: both move it to the same text, up to 9.999999, where mp3gain stops; half-way between two millionths it may go down.
+tagged = "oracle/tagged/mp3gain.mp3"
+ends = {}
+for peak, steps in [("0.248763", n) for n in (*range(-20, 21), 24)] + [("1.000000", -28)]:
+    paths = [os.path.join(work, who + ".mp3") for who in ("theirs", "ours")]
+    for path in paths:
+        with open(path, "wb") as f:
+            f.write(read(tagged).replace(b"0.248763", peak.encode()))
+    run("mp3gain", "-q", "-g", str(steps), paths[0])
+    run(loop, "level", paths[1], str(steps), str(steps))
+    theirs, ours = (listed(path).get("REPLAYGAIN_TRACK_PEAK") for path in paths)
+    if float(ours) > 9.999999 or peak == "1.000000":
+        ends[steps] = (theirs, ours)
+    else:
+        check(theirs == ours, f"{peak} by {steps}: mp3gain moves it to {theirs}, we to {ours}")
+check(ends == {24: ("9.999999", "15.920832"), -28: ("0.007812", "0.007813")}, f"peaks that mp3gain moves otherwise: {ends}")
+
 # ffmpeg writes such tags into WavPack files. Its tag is listed there; behind a loop it is kept by level and undo.
 wavpack = os.path.join(work, "ffmpeg.wv")
 words = ["-metadata", "title=Fläche", "-metadata", "artist=Höller", "-metadata", "place=floor=12"]

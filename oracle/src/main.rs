@@ -3,7 +3,7 @@
 //!     oracle record  [--seed N] [--check] [NAME..]    write the recorded answers that the repository replays without Rust
 //!     oracle compare [--seed N] [--count N] [NAME..]  compare both on generated inputs; the first difference ends it with status 1;
 //!                                                     `--long` is ten times the count; `--every` adds to `values` every short gain
-//!                                                     text at every step, a quarter of an hour on two cores
+//!                                                     text at every step, a quarter of an hour on two cores, and to `peaks` a million texts
 //!     oracle bench   [--ten] [NAME..]                 time both sides in one run, and print their ratios; `--ten` takes the ten rows of docs/BENCH.md
 //!     oracle once    [--ten] [NAME..]                 run each side of each row of the bench once, between marks: `oracle/bench` counts with it
 //!

@@ -368,8 +368,9 @@ impl Items {
         })
     }
 
-    /// Moves the stored ranges and gain texts by so many steps. A gain text of another form than `-3.480000 dB` stays as it is, and so do
-    /// peaks; where gains wrap, a range that would leave 0..255 is removed. A value that moves is text, as one that is set.
+    /// Moves the stored ranges, gain texts and peaks by so many steps. A gain text of another form than `-3.480000 dB` stays as it is, and so
+    /// does a peak of another form than `0.248763`; where gains wrap, a range that would leave 0..255 is removed. A value that moves is text,
+    /// as one that is set.
     pub fn shift_stored_gain(&mut self, steps: i32, mode: Mode) -> Result<()> {
         // SAFETY: as in `set`. A value that moves has at most 32 bytes.
         self.edit(32 * self.count, |a, l, n, out, room, items, written| unsafe {
@@ -837,7 +838,7 @@ pub fn steps_to_db(steps: i32) -> Decibels {
     Decibels { minus: minus == 1, millionths, rest }
 }
 
-/// Moves one stored value by so many steps and gives its new text; `None` where the value stays as it is.
+/// Moves one stored value, a range, a gain text or a peak, by so many steps and gives its new text; `None` where the value stays as it is.
 pub fn shift_stored_value(key: &[u8], value: &[u8], steps: i32) -> Option<String> {
     let mut moved = 0;
     // SAFETY: as in `read_tag`; no such text has more than 32 bytes.
@@ -1028,6 +1029,7 @@ mod tests {
         assert!(range_wraps_out(b"MP3GAIN_MINMAX", b"094,168", 100));
         assert_eq!(shift_stored_value(b"MP3GAIN_MINMAX", b"094,168", 100).as_deref(), Some("194,255"));
         assert_eq!(shift_stored_value(b"REPLAYGAIN_TRACK_PEAK", b"0.9", 1), None);
+        assert_eq!(shift_stored_value(b"REPLAYGAIN_TRACK_PEAK", b"1.000000", 1).as_deref(), Some("1.189207"));
         assert_eq!(list_tag(b""), "items=none\n");
     }
 }

@@ -142,7 +142,7 @@ unfolding shiftItem shiftStored
 shift-other z t e = rw (other-kind (t .key) e)
 
 -- keys stay as they are
-shift-key : (z : ℤ) (t : Item) → (shiftItem z t) .key ≡ t .key
+pub shift-key : (z : ℤ) (t : Item) → (shiftItem z t) .key ≡ t .key
 unfolding shiftItem
 shift-key z t = go (shiftStored (t .key) (t .value) z)
   where

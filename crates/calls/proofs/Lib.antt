@@ -3,5 +3,6 @@ pub mod Gates
 pub mod Texts
 pub mod Items
 pub mod Plain
+pub mod Peaks
 pub mod Figures
 pub mod Slips

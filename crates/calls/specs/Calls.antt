@@ -30,7 +30,7 @@ use Rattle.values.specs.declared.UndoValues.{UndoValues}
 use Rattle.values.specs.declared.Range.{Range}
 use Rattle.values.specs.Undo.{formatUndo, parseUndo, undoWraps, accumulated}
 use Rattle.values.specs.Range.{formatRange}
-use Rattle.values.specs.Stored.{rangeWrapsOut, shiftStored}
+use Rattle.values.specs.Stored.{isPeak, rangeWrapsOut, shiftStored}
 use Rattle.slip.specs.declared.SlipMode.{SlipMode}
 use Rattle.slip.specs.declared.SlipMode.the-variants.{Named, Unnamed}
 use Rattle.slip.specs.declared.Wish.{Wish}
@@ -70,7 +70,7 @@ pub record Level : Type 0 where
   pub right : ℤ
   pub mode : GainMode
 
--- the file, the gains of either side, and how many peak items the file's tag holds
+-- the file, the gains of either side, and how many peak items of its tag were left as found
 pub record Levelled : Type 0 where
   pub out : List ℕ
   pub left : List ℕ
@@ -166,9 +166,23 @@ levelItems l ts gs =
     let u = booked l ts in
     setItem minmaxKey (formatRange (rangeOf gs)) (setItem undoKey (formatUndo (u .left) (u .right) (wraps (l .mode))) (shiftedItems l ts))
 
--- REPLAYGAIN_TRACK_PEAK and REPLAYGAIN_ALBUM_PEAK, by their places among the eight keys
+-- REPLAYGAIN_TRACK_PEAK and REPLAYGAIN_ALBUM_PEAK
 unfoldable pub isPeakKey : List ℕ → Bool
-isPeakKey key = found (whichKey key) false (λ i. eqb i 4 || eqb i 6)
+isPeakKey key = found (whichKey key) false isPeak
+
+-- how many items pass the test
+unfoldable pub countItems : (Item → Bool) → List Item → ℕ
+countItems p [] = 0
+countItems p (t ∷ ts) = cond (p t) 1 0 + countItems p ts
+
+-- a peak item that a shift by so many steps leaves as found; a shift to the same text is a shift
+unfoldable pub keepsPeak : ℤ → Item → Bool
+keepsPeak steps t = isPeakKey (t .key) && not (isSome (shiftStored (t .key) (t .value) steps))
+
+-- how many of the old tag's items level keeps so: none where the steps differ, as it drops every peak item there.
+-- The new tag does not tell, for a shifted text has the form too.
+unfoldable pub peaksKept : ℤ → ℤ → List Item → ℕ
+peaksKept left right ts = cond (sameStep left right) (countItems (keepsPeak left) ts) 0
 
 -- ---- level
 
@@ -203,7 +217,7 @@ levelGives file left right l = record {
   out = replaced file (newItems file left right l);
   left = adjusted (l .mode) (l .left) left;
   right = adjusted (l .mode) (l .right) right;
-  peaks = countOf isPeakKey (newItems file left right l);
+  peaks = peaksKept (l .left) (l .right) (itemsOf file);
 }
 
 -- level: refused by the first test that fails, else what it gives

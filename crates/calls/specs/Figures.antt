@@ -2,7 +2,7 @@
 use Prim.Native.Nat.{ℕ}
 use mathlib.Core.Path.{_≡_}
 use mathlib.Core.Bool.{true, false}
-use mathlib.Core.Option.{some}
+use mathlib.Core.Option.{Option, none, some}
 use mathlib.Core.List.{List, [], _∷_, _++_}
 use lib.ListN.{length, replicate}
 use lib.IntN.{ℤ, pos, negsuc}
@@ -34,7 +34,7 @@ use Rattle.decibels.specs.Gain.{shiftGain}
 use Rattle.slip.specs.declared.SlipMode.the-variants.{Named, Unnamed}
 use Rattle.items.specs.Items.{Item, areaBytes, textItem}
 use Rattle.ape.specs.Tag.{headerFlags, footerFlags, sizeAt, serialize, readTag, replaced}
-use Rattle.calls.specs.Calls.{Level, setPlan, removePlan, shiftStoredGain, resolved, levelPlan, slipPlan, undoPlan}
+use Rattle.calls.specs.Calls.{Level, setPlan, removePlan, shiftStoredGain, resolved, peaksKept, levelPlan, slipPlan, undoPlan}
 
 -- ---- what the figures are about
 
@@ -148,6 +148,14 @@ undonePair = item (ascii "REPLAYGAIN_TRACK_GAIN") (ascii "-3.500000 dB") ∷ ite
 abbrev pub peaked : List Item
 peaked = item (ascii "replaygain_track_peak") (ascii "0.9") ∷ item (ascii "Mp3gain_MinMax") (ascii "010,200") ∷ item (ascii "MP3GAIN_undo") (ascii "+001,-002,W") ∷ []
 
+-- a peak text after so many steps, none where it stays as found
+abbrev pub peakBy : ℤ → List ℕ → Option (List ℕ)
+peakBy steps text = shiftStored (ascii "REPLAYGAIN_TRACK_PEAK") text steps
+
+-- a peak that a shift moves and one that it leaves, both read-only and binary
+abbrev pub twoPeaks : List Item
+twoPeaks = flagged 3 (ascii "REPLAYGAIN_TRACK_PEAK") (ascii "1.000000") ∷ flagged 3 (ascii "replaygain_album_peak") (ascii "0.9") ∷ []
+
 -- each field is a call and what it gives
 pub record Examples : Type 0 where
   -- 2: left 256
@@ -181,6 +189,40 @@ pub record Examples : Type 0 where
   pub set-flags : setPlan (serialize (flagged 3 (ascii "AB") (0xFF ∷ []) ∷ [])) (ascii "ab") (ascii "c") 1000 ≡ yes (serialize (flagged 1 (ascii "AB") (ascii "c") ∷ []))
   pub shift-flags : shiftStoredGain Saturating (pos 100) (flagged 3 (ascii "MP3GAIN_MINMAX") (ascii "094,168") ∷ flagged 3 (ascii "MP3GAIN_MINMAX") (ascii "x") ∷ [])
       ≡ flagged 1 (ascii "MP3GAIN_MINMAX") (ascii "194,255") ∷ flagged 3 (ascii "MP3GAIN_MINMAX") (ascii "x") ∷ []
+  -- peaks move to the nearest millionth; a needless zero goes, by 0 steps too
+  pub peak-up : peakBy (pos 1) (ascii "1.000000") ≡ some (ascii "1.189207")
+  pub peak-down : peakBy (negsuc 0) (ascii "1.000000") ≡ some (ascii "0.840896")
+  pub peak-still : peakBy (pos 0) (ascii "00.500000") ≡ some (ascii "0.500000")
+  pub peak-tens : peakBy (pos 4) (ascii "09.500000") ≡ some (ascii "19.000000")
+  -- a half goes up: 1/2, 3/2, 1/2 and 7812 1/2 millionths
+  pub half-of-1 : peakBy (negsuc 3) (ascii "0.000001") ≡ some (ascii "0.000001")
+  pub half-of-3 : peakBy (negsuc 3) (ascii "0.000003") ≡ some (ascii "0.000002")
+  pub part-of-16 : peakBy (negsuc 19) (ascii "0.000016") ≡ some (ascii "0.000001")
+  pub part-of-million : peakBy (negsuc 27) (ascii "1.000000") ≡ some (ascii "0.007813")
+  -- the greatest is 99.999999: a text that would have 100,000,000 millionths or more stays; 0 always moves
+  pub peak-most : peakBy (pos 0) (ascii "99.999999") ≡ some (ascii "99.999999")
+  pub peak-over : peakBy (pos 1) (ascii "99.999999") ≡ none
+  pub peak-hundred : peakBy (pos 4) (ascii "50.000000") ≡ none
+  pub peak-106 : peakBy (pos 106) (ascii "0.000001") ≡ some (ascii "94.906266")
+  pub peak-107 : peakBy (pos 107) (ascii "0.000001") ≡ none
+  pub peak-least : peakBy (negsuc 254) (ascii "99.999999") ≡ some (ascii "0.000000")
+  pub peak-zero : peakBy (pos 255) (ascii "0.000000") ≡ some (ascii "0.000000")
+  -- a text of another form stays: a sign, 5 or 7 digits behind the point, 3 or none before it
+  pub peak-sign : peakBy (pos 1) (ascii "+1.000000") ≡ none
+  pub peak-five : peakBy (pos 1) (ascii "1.00000") ≡ none
+  pub peak-seven : peakBy (pos 1) (ascii "1.0000000") ≡ none
+  pub peak-three : peakBy (pos 1) (ascii "001.000000") ≡ none
+  pub peak-bare : peakBy (pos 1) (ascii ".500000") ≡ none
+  -- of a peak that moves and one that stays, one is kept; the one that moves counts as set, and the other keeps its flags; unequal steps keep none
+  pub peaks-moved : shiftStoredGain Saturating (pos 1) twoPeaks
+      ≡ flagged 1 (ascii "REPLAYGAIN_TRACK_PEAK") (ascii "1.189207") ∷ flagged 3 (ascii "replaygain_album_peak") (ascii "0.9") ∷ []
+  pub one-kept : levelPlan (serialize twoPeaks) (10 ∷ []) [] (by (pos 1) (pos 1) Saturating) 1000 ≡ yes (record {
+    out = serialize (flagged 1 (ascii "REPLAYGAIN_TRACK_PEAK") (ascii "1.189207") ∷ flagged 3 (ascii "replaygain_album_peak") (ascii "0.9") ∷ levelPair (ascii "-001,-001,N") (ascii "011,011"));
+    left = 11 ∷ [];
+    right = [];
+    peaks = 1;
+  })
+  pub none-kept : peaksKept (pos 1) (pos 2) twoPeaks ≡ 0
   -- a binary value is read as found; one of the reserved type is converted like text
   pub read-binary : readTag (serialize (flagged 2 (ascii "AB") (0xFF ∷ []) ∷ [])) ≡ some (flagged 2 (ascii "AB") (0xFF ∷ []) ∷ [])
   pub read-reserved : readTag (serialize (flagged 6 (ascii "AB") (0xFF ∷ []) ∷ [])) ≡ some (flagged 6 (ascii "AB") mark ∷ [])

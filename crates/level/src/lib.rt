@@ -6,11 +6,11 @@ ghost use lib.ListN.{length};
 ghost use Rattle.lists.specs.Choice.{isSome};
 ghost use Rattle.lists.specs.Write.{over};
 ghost use Rattle.replies.specs.Limits.{countLimit, areaLimit};
-ghost use Rattle.items.specs.Items.{parse, itemsIn, countOf};
+ghost use Rattle.items.specs.Items.{parse, itemsIn};
 ghost use Rattle.items.specs.Answers.{isThere, valueOf};
 ghost use Rattle.ape_write.specs.Answers.{writtenBytes};
 ghost use Rattle.calls.specs.Gate.{itemsOf};
-ghost use Rattle.calls.specs.Calls.{Level, agrees, isUndoNumber, booked, isPeakKey, levelPlan};
+ghost use Rattle.calls.specs.Calls.{Level, agrees, isUndoNumber, booked, peaksKept, levelPlan};
 ghost use Rattle.gate.specs.Gate.{Passed};
 ghost use Rattle.edit.specs.Finish.{tagPlan};
 ghost use Rattle.level_items.specs.Items.{rangedItems};
@@ -26,7 +26,7 @@ use values::UndoValues;
 
 const SCRATCH: usize = replies::AREA_LIMIT + 32 * replies::COUNT_LIMIT + 76;
 
-// How long the new file is, and how many peak items its tag holds.
+// How long the new file is, and how many peak items of its tag were left as found.
 pub enum LevelAnswer {
     Done { length: usize, peaks: usize },
     Refused(Refusal),
@@ -93,14 +93,12 @@ fn book_undo(
     Booked::Numbers(u)
 }
 
-// The file with the items of a well-formed area, and how many of these hold a peak: refusals 6 and 5.
-fn filed(file: &[u8], area: &[u8], count: usize, out: &mut [u8]) -> LevelAnswer
+// The file with the items of a well-formed area, answered with a count of peaks: refusals 6 and 5.
+fn filed(file: &[u8], area: &[u8], count: usize, peaks: usize, out: &mut [u8]) -> LevelAnswer
     requires { ⌜ (length (now file) ≤ 16777216) × (isSome (parse count (now area)) ≡ true) ⌝ }
     ensures { λ r. ⌜ (let plan = tagPlan (now (file .entry)) (itemsIn count (now (area .entry))) (length (now (out .entry))) in
-        (r ≡ filedAnswer plan (countOf isPeakKey (itemsIn count (now (area .entry)))))
-        × (now (out .exit) ≡ over (writtenBytes plan) (now (out .entry)))) ⌝ }
+        (r ≡ filedAnswer plan peaks) × (now (out .exit) ≡ over (writtenBytes plan) (now (out .entry)))) ⌝ }
 {
-    let peaks = level_items::count_peaks(area, count);
     let w = edit::finish(file, area, count, out);
     match w {
         Written::Done(length) => LevelAnswer::Done { length, peaks },
@@ -135,8 +133,9 @@ fn write_file_in(
     ensures { λ r. ⌜ (let asked : Level = record { left = «left_steps» .0; right = «right_steps» .0; mode = mode } in
         let ts = rangedItems asked undo range (itemsOf (now (file .entry))) in
         let plan = tagPlan (now (file .entry)) ts (length (now (out .entry))) in
-        (r ≡ filedAnswer plan (countOf isPeakKey ts)) × (now (out .exit) ≡ over (writtenBytes plan) (now (out .entry)))) ⌝ }
+        (r ≡ filedAnswer plan (peaksKept («left_steps» .0) («right_steps» .0) (itemsOf (now (file .entry))))) × (now (out .exit) ≡ over (writtenBytes plan) (now (out .entry)))) ⌝ }
 {
+    let peaks = level_items::count_kept(&file[start..end], count, left_steps, right_steps);
     let m = level_items::write_items(
         &file[start..end],
         count,
@@ -149,7 +148,7 @@ fn write_file_in(
         new,
     );
     let n = m.length;
-    filed(file, &new[0..n], m.count, out)
+    filed(file, &new[0..n], m.count, peaks, out)
 }
 
 // The file with the items that level leaves.
@@ -169,7 +168,7 @@ fn write_file(
     ensures { λ r. ⌜ (let asked : Level = record { left = «left_steps» .0; right = «right_steps» .0; mode = mode } in
         let ts = rangedItems asked undo range (itemsOf (now (file .entry))) in
         let plan = tagPlan (now (file .entry)) ts (length (now (out .entry))) in
-        (r ≡ filedAnswer plan (countOf isPeakKey ts)) × (now (out .exit) ≡ over (writtenBytes plan) (now (out .entry)))) ⌝ }
+        (r ≡ filedAnswer plan (peaksKept («left_steps» .0) («right_steps» .0) (itemsOf (now (file .entry))))) × (now (out .exit) ≡ over (writtenBytes plan) (now (out .entry)))) ⌝ }
 {
     if end - start + 32 * count <= 4020 {
         let mut work = edit::small_scratch();

@@ -17,7 +17,7 @@ use Rattle.values.proofs.ReadBack.{length-undo, length-range}
 use Rattle.items.specs.Items.{Item, areaBytes, without}
 use Rattle.items.proofs.Area.{AllSane}
 use Rattle.items.proofs.ItemLaws.{area-set, area-without, sane-set, sane-key}
-use Rattle.calls.specs.Calls.{Level, sameStep, wraps, shiftStoredGain, shiftedItems}
+use Rattle.calls.specs.Calls.{Level, sameStep, wraps, shiftStoredGain, shiftedItems, countItems, keepsPeak, peaksKept}
 use Rattle.calls.proofs.Items.{shifted-sane}
 use Rattle.area_shift.proofs.Shifting.{shift-bytes}
 use Rattle.level_items.specs.Items.{undoneItems, rangedItems}
@@ -42,6 +42,15 @@ module _ (l : Level) (ts : List Item) where
   pub moved-other : (l .left ≡ l .right → ⊥) → shiftedItems l ts ≡ without isUndone ts
   unfolding shiftedItems
   moved-other n = rw (other-step (l .left) (l .right) n)
+
+module _ (left right : ℤ) (ts : List Item) where
+  pub kept-equal : left ≡ right → peaksKept left right ts ≡ countItems (keepsPeak left) ts
+  unfolding peaksKept
+  kept-equal e = rw (same-step left right e)
+
+  pub kept-other : (left ≡ right → ⊥) → peaksKept left right ts ≡ 0
+  unfolding peaksKept
+  kept-other n = rw (other-step left right n)
 
 -- ---- they can be read back
 

@@ -9,8 +9,8 @@ ghost use Rattle.replies.specs.Limits.{fileLimit, countLimit};
 ghost use Rattle.keys.specs.Keys.{undoKey, minmaxKey};
 ghost use Rattle.values.specs.Undo.{formatUndo};
 ghost use Rattle.values.specs.Range.{formatRange};
-ghost use Rattle.items.specs.Items.{areaBytes, parse, itemsIn, setItem, countOf};
-ghost use Rattle.calls.specs.Calls.{Level, wraps as wrapsBy, shiftedItems, isPeakKey};
+ghost use Rattle.items.specs.Items.{areaBytes, parse, itemsIn, textItem, setItem};
+ghost use Rattle.calls.specs.Calls.{Level, wraps as wrapsBy, shiftedItems, isPeakKey, countItems, keepsPeak, peaksKept};
 ghost use Rattle.level_items.specs.Items.{Wrote, undoneItems, rangedItems};
 use area_drop::Drop;
 use area_drop::Measured;
@@ -142,10 +142,21 @@ fn is_peak(key: &[u8]) -> bool
     i == ALBUM_PEAK
 }
 
-// How many items of a well-formed area hold a peak.
-pub fn count_peaks(area: &[u8], count: usize) -> usize
+// Whether an item is a peak item that a shift leaves as found.
+fn keeps_peak(key: &[u8], value: &[u8], steps: GainSteps) -> bool
+    ensures { λ r. ⌜ r ≡ keepsPeak (steps .0) (textItem (now (key .entry)) (now (value .entry))) ⌝ }
+{
+    if !is_peak(key) {
+        return false;
+    }
+    let s = values::shift_stored_value(key, value, steps);
+    !s.moved
+}
+
+// How many items of a well-formed area are peak items that a shift leaves as found.
+fn kept_by(area: &[u8], count: usize, steps: GainSteps) -> usize
     requires { ⌜ isSome (parse count (now area)) ≡ true ⌝ }
-    ensures { λ r. ⌜ r ≡ countOf isPeakKey (itemsIn count (now (area .entry))) ⌝ }
+    ensures { λ r. ⌜ r ≡ countItems (keepsPeak (steps .0)) (itemsIn count (now (area .entry))) ⌝ }
 {
     let mut at = 0;
     let mut left = count;
@@ -156,17 +167,32 @@ pub fn count_peaks(area: &[u8], count: usize) -> usize
             flags: _,
             key_start,
             key_end,
-            value_start: _,
+            value_start,
             value_end,
         } = s
         else {
             return n;
         };
         left -= 1;
-        if is_peak(&area[key_start..key_end]) {
+        if keeps_peak(
+            &area[key_start..key_end],
+            &area[value_start..value_end],
+            steps,
+        ) {
             n += 1;
         }
         at = value_end;
     }
     n
+}
+
+// How many peak items of a well-formed area level leaves as found: none where the steps differ, for it drops them there.
+pub fn count_kept(area: &[u8], count: usize, left: GainSteps, right: GainSteps) -> usize
+    requires { ⌜ isSome (parse count (now area)) ≡ true ⌝ }
+    ensures { λ r. ⌜ r ≡ peaksKept (left .0) (right .0) (itemsIn count (now (area .entry))) ⌝ }
+{
+    if left.0 == right.0 {
+        return kept_by(area, count, left);
+    }
+    0
 }

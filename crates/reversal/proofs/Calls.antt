@@ -35,7 +35,7 @@ use Rattle.items.proofs.ItemLaws.{count-kept, count-outside, get-set-same, get-
 use Rattle.ape.specs.Tag.{tagBytes, serialize, fileOf}
 use Rattle.ape.specs.Answers.{lentFits, roomFor, hasRoom}
 use Rattle.calls.specs.Gate.{tagFits}
-use Rattle.calls.specs.Calls.{Level, Levelled, adjusted, storedUndo, undoOnce, agrees, booked, numbersFit, levelItems, isPeakKey, isThere, stepsFit, others, undoneLeft, undoneRight, setPlan, removePlan, levelPlan, undoPlan}
+use Rattle.calls.specs.Calls.{Level, Levelled, adjusted, storedUndo, undoOnce, agrees, booked, numbersFit, levelItems, peaksKept, isThere, stepsFit, others, undoneLeft, undoneRight, setPlan, removePlan, levelPlan, undoPlan}
 use Rattle.calls.proofs.Lists.{both, and-of}
 use Rattle.book.proofs.Sound.{Good, Sound}
 use Rattle.ape.proofs.Files.{length-block}
@@ -264,7 +264,7 @@ module _ (front back : List ℕ) (ts : List Item) (s : Sound front ts back) (lef
       out = fileOf front new back;
       left = adjusted (l .mode) (l .left) left;
       right = adjusted (l .mode) (l .right) right;
-      peaks = countOf isPeakKey new;
+      peaks = peaksKept (l .left) (l .right) ts;
     }
 
     level-is : levelPlan (fileOf front ts back) left right l room ≡ planned (refusalOf (levelTests front ts back left l new room)) levelled
@@ -291,7 +291,7 @@ module _ (front back : List ℕ) (ts : List Item) (s : Sound front ts back) (lef
       out = fileOf front (levelItems l ts (gainsTo l left right)) back;
       left = adjusted (l .mode) (l .left) left;
       right = adjusted (l .mode) (l .right) right;
-      peaks = countOf isPeakKey (levelItems l ts (gainsTo l left right));
+      peaks = peaksKept (l .left) (l .right) ts;
     }
     unfolding new levelled
     level-gives o r = sym (done (refusalOf (levelTests front ts back left l new room)) levelled o (sym level-is ∙ r) .1)

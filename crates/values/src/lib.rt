@@ -1,4 +1,4 @@
-// The values that mp3gain keeps in a tag: undo texts, ranges and gain texts.
+// The values that mp3gain keeps in a tag: undo texts and ranges; and by its key, the shift of each stored value.
 use decimal::Shifted;
 use decimal::Text;
 use frame::GainMode;
@@ -254,17 +254,22 @@ fn shift_range(text: &[u8], steps: GainSteps) -> Shifted
 pub enum Kind {
     Range,
     Gain,
+    Peak,
     Other,
 }
 
-// The places of four keys in the table of eight.
+// The places of six keys in the table of eight.
 const MINMAX: usize = 1;
 
 const ALBUM_MINMAX: usize = 2;
 
 const TRACK_GAIN: usize = 3;
 
+const TRACK_PEAK: usize = 4;
+
 const ALBUM_GAIN: usize = 5;
+
+const ALBUM_PEAK: usize = 6;
 
 // Whether a place is one of two.
 fn is_either(i: usize, a: usize, b: usize) -> bool
@@ -289,6 +294,9 @@ fn kind_of(key: &[u8]) -> Kind
     if is_either(i, TRACK_GAIN, ALBUM_GAIN) {
         return Kind::Gain;
     }
+    if is_either(i, TRACK_PEAK, ALBUM_PEAK) {
+        return Kind::Peak;
+    }
     Kind::Other
 }
 
@@ -300,11 +308,12 @@ pub fn range_wraps_out(key: &[u8], value: &[u8], steps: GainSteps) -> bool
     match kind {
         Kind::Range => wraps_out(value, steps),
         Kind::Gain => false,
+        Kind::Peak => false,
         Kind::Other => false,
     }
 }
 
-// A stored value after so many steps. Peaks and values of other keys stay as found.
+// A stored value after so many steps. Values of other keys stay as found.
 pub fn shift_stored_value(key: &[u8], value: &[u8], steps: GainSteps) -> Shifted
     ensures { λ r. ⌜ r ≡ shiftedIs (S.shiftStored (now (key .entry)) (now (value .entry)) (steps .0)) ⌝ }
 {
@@ -312,6 +321,7 @@ pub fn shift_stored_value(key: &[u8], value: &[u8], steps: GainSteps) -> Shifted
     match kind {
         Kind::Range => shift_range(value, steps),
         Kind::Gain => decibels::shift_gain(value, steps),
+        Kind::Peak => peaks::shift_peak(value, steps),
         Kind::Other => decimal::as_found(),
     }
 }

@@ -10,7 +10,7 @@ use super::edit::{self, in_room, in_rooms, moved, Levelled, EIGHT, ITEMS, LIMIT}
 use super::items::{self, each_op, refused, some_key, some_op, some_value, walk, Answer, Op};
 use super::level::{self, by, some_gains, Level};
 use super::values::{is_gain, is_i32, range_sums, whole};
-use super::{listing, shift, Case};
+use super::{listing, peaks, shift, Case};
 use crate::ape::{find_ape_footer, reach};
 use crate::frame::read_u32_le;
 use crate::tools::{hex, Compare, Rng};
@@ -207,6 +207,9 @@ fn shifted(i: &Item, steps: i32) -> Option<Vec<u8>> {
         };
         return Some(format!("{:03},{:03}", gain(&i.value[..comma])?, gain(&i.value[comma + 1..])?).into_bytes());
     }
+    if is_one_of(i, &PEAKS) {
+        return peaks::moved(&i.value, steps);
+    }
     if !is_one_of(i, &GAINS) || !is_gain(&i.value) {
         return None;
     }
@@ -352,7 +355,9 @@ pub fn level(file: &[u8], left: &[u8], right: &[u8], by: Level) -> Result<Levell
     if [x, y].iter().any(|n| !(-32_768..=32_767).contains(n)) {
         return Err(11);
     }
+    let mut peaks = 0;
     if by.left == by.right {
+        peaks = items.iter().filter(|i| is_one_of(i, &PEAKS) && shifted(i, by.left).is_none()).count();
         shift_items(&mut items, by.left, by.wrap);
     } else {
         drop_keys(&mut items, &EIGHT[2..]);
@@ -362,7 +367,6 @@ pub fn level(file: &[u8], left: &[u8], right: &[u8], by: Level) -> Result<Levell
     set(&mut items, b"MP3GAIN_UNDO", &undo_text(x, y, by.wrap));
     let range = format!("{:03},{:03}", gains().min().unwrap(), gains().max().unwrap());
     set(&mut items, b"MP3GAIN_MINMAX", range.as_bytes());
-    let peaks = items.iter().filter(|i| is_one_of(i, &PEAKS)).count();
     finish(file, &items).map(|file| Levelled { file, left, right, peaks })
 }
 

@@ -5,11 +5,11 @@
 
 use super::ape::{area_of, headed_files, item, random_file, tag_of};
 use super::edit::{around, finish, gate, in_domain, in_rooms, moved, some_items, Levelled, ITEMS, LIMIT, UNDO_NAMES};
-use super::flags;
 use super::items::is_repeated;
 use super::shift::{flag, full_tag, shifted, some_tag};
 use super::values::{any_i32, is_peak_key, nearly, slip_form, turn, ENDS, FLAGS, MINMAX, NUMBERS, TRACK_GAIN};
-use crate::ape::{accumulate_undo, format_undo_value, parse_undo_wrap, reach, read_ape_tag, UNDONE_KEYS};
+use super::{flags, peaks};
+use crate::ape::{accumulate_undo, format_undo_value, parse_undo_wrap, reach, read_ape_tag, ApeItem, UNDONE_KEYS};
 use crate::frame::{adjust_gain_value, GainMode};
 use crate::tools::{hex, Bench, Compare, Record, Rng};
 
@@ -158,7 +158,9 @@ pub fn published(file: &[u8], left: &[u8], right: &[u8], by: Level) -> Option<Re
     let gains = || left.iter().chain(&right).copied();
     new.set_undo_gain(x, y, by.wrap);
     new.set_minmax(gains().min().unwrap(), gains().max().unwrap());
-    let peaks = new.iter().filter(|i| is_peak_key(i.key())).count();
+    // Of the old tag: those that were not shifted. Where the steps differ, none is left.
+    let kept = |i: &&ApeItem| is_peak_key(i.key()) && peaks::moved(i.value().as_bytes(), by.left).is_none();
+    let peaks = if by.left == by.right { tag.iter().filter(kept).count() } else { 0 };
     Some(finish(file, &new).map(|file| Levelled { file, left, right, peaks }))
 }
 

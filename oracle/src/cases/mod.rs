@@ -9,6 +9,7 @@ mod frame;
 mod items;
 mod level;
 mod listing;
+mod peaks;
 mod reversal;
 mod shift;
 mod utf8;
@@ -28,6 +29,7 @@ pub const ALL: &[Case] = &[
     items::CASE,
     utf8::CASE,
     values::CASE,
+    peaks::CASE,
     edit::CASE,
     reversal::CASE,
     listing::CASE,

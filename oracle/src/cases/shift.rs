@@ -1,16 +1,16 @@
 //! Crate `area_shift`: the stored values of an item area after so many steps, beside the published `ApeTag::shift_stored_gain`.
 //!
-//! Compared where document 01 compares: keys and values of UTF-8, range fields of ASCII. Peaks and gain texts of another form stay as found,
-//! so the published call gets them under a key that it does not know. Where a sum of a range passes i32 the Rust panics or wraps, as it was
+//! Compared where document 01 compares: keys and values of UTF-8, range fields of ASCII. Gain texts of another form stay as found, and peaks move
+//! by the reading of `peaks`, so the published call gets both under a key that it does not know. Where a sum of a range passes i32 the Rust panics or wraps, as it was
 //! built: there the exact sum decides. A step outside -255..255 is refused, which the Rust does not do.
 
 use super::ape::{area_of, is_area, item, tag_of, written};
-use super::flags;
 use super::items::{are_utf8, parts};
 use super::values::{
     any_i32, gain_text, is_gain, is_gain_key, is_i32, is_peak_key, is_range_domain, is_range_key, keys, nearly,
     range_sums, spellings, turn, ENDS, MINMAX, NUMBERS, TRACK_GAIN,
 };
+use super::{flags, peaks};
 use crate::ape::{format_minmax, format_undo_value, ApeTag, MP3GAIN_VALUE_KEYS};
 use crate::tools::{hex, Bench, Compare, Record, Rng};
 use std::cell::Cell;
@@ -68,14 +68,16 @@ pub fn shifted(tag: &ApeTag, steps: i32, wrap: bool) -> Option<ApeTag> {
             }
         }
         let moves = is_gain_key(key) && is_gain(value);
-        let stays = is_peak_key(key) || is_gain_key(key) && !moves || key.starts_with('\u{1}');
-        items.push(if stays { item(&format!("\u{1}{i}"), "") } else { found.clone() });
+        let hidden = is_peak_key(key) || is_gain_key(key) && !moves || key.starts_with('\u{1}');
+        items.push(if hidden { item(&format!("\u{1}{i}"), "") } else { found.clone() });
     }
     let mut new = tag_of(items);
     new.shift_stored_gain(steps, wrap);
     for found in &mut new.items {
         if let Some(i) = found.key().strip_prefix('\u{1}') {
-            *found = tag.items[i.parse::<usize>().unwrap()].clone();
+            let old = &tag.items[i.parse::<usize>().unwrap()];
+            let peak = is_peak_key(old.key()).then(|| peaks::moved(old.value().as_bytes(), steps)).flatten();
+            *found = peak.map_or(old.clone(), |text| item(old.key(), &String::from_utf8(text).unwrap()));
         }
     }
     Some(new)

@@ -1,10 +1,10 @@
 //! Crates `number`, `decimal`, `decibels`, `values` and `slip`: undo texts, ranges, gain texts and the level slip.
 //!
 //! Document 01 compares within a domain. What lies outside is told here by a reading of its own: fields with a byte of hex 80 or more,
-//! peaks, gain texts of another form, gain texts by more than 255 steps. Where document 01 still gives the answer (as found), that is
-//! what the library is held to. The slip is not in the published source: it is held to a second reading of document 01.
+//! gain texts of another form, gain texts by more than 255 steps. Where document 01 still gives the answer (as found), that is
+//! what the library is held to. Peaks are held to the reading of `peaks`, which has the Rust beside it. The slip is not in the published source: it is held to a second reading of document 01.
 
-use super::Case;
+use super::{peaks, Case};
 use crate::ape::{
     accumulate_undo, format_minmax, format_undo_value, parse_undo_values, parse_undo_wrap, range_wraps_out,
     shift_stored_value, MP3GAIN_VALUE_KEYS,
@@ -17,7 +17,7 @@ use std::hint::black_box;
 pub const CASE: Case = Case { name: "values", record, compare, bench };
 
 /// The exported functions, as Rust, and safe wrappers.
-mod library {
+pub mod library {
     extern "C" {
         fn zib_parse_undo(text: *const u8, length: usize, left: *mut i32, right: *mut i32, mode: *mut u32) -> u32;
         fn zib_format_undo_value(
@@ -154,7 +154,7 @@ fn our_minmax(least: u8, greatest: u8) -> Vec<u8> {
 }
 
 /// The new text, or none where the value stays as found.
-fn our_shift(key: &str, value: &[u8], steps: i32) -> Option<Vec<u8>> {
+pub fn our_shift(key: &str, value: &[u8], steps: i32) -> Option<Vec<u8>> {
     let key = key.as_bytes();
     let (mut moved, mut out, mut n) = (7, [FILL; 40], UNTOUCHED);
     assert_eq!(library::shift_into(key, value, steps, &mut moved, &mut out, &mut n), 0);
@@ -251,6 +251,7 @@ fn slip_reading(text: &[u8]) -> Result<(i32, i32, Option<bool>), u32> {
 // ---- both sides
 
 pub const TRACK_GAIN: &str = "REPLAYGAIN_TRACK_GAIN";
+pub const TRACK_PEAK: &str = "REPLAYGAIN_TRACK_PEAK";
 pub const MINMAX: &str = "MP3GAIN_MINMAX";
 
 fn is_one_of(key: &str, of: &[&str]) -> bool {
@@ -266,7 +267,7 @@ pub fn is_gain_key(key: &str) -> bool {
 }
 
 pub fn is_peak_key(key: &str) -> bool {
-    is_one_of(key, &["REPLAYGAIN_TRACK_PEAK", "REPLAYGAIN_ALBUM_PEAK"])
+    is_one_of(key, &[TRACK_PEAK, "REPLAYGAIN_ALBUM_PEAK"])
 }
 
 /// The published answers, or none outside the domain.
@@ -291,9 +292,12 @@ fn published_out(key: &str, value: &[u8], steps: i32) -> Option<bool> {
     Some(range_wraps_out(key, text, steps))
 }
 
-/// Peaks and gain texts of another form stay as found; gain texts are compared for steps in -255..255.
+/// Gain texts of another form stay as found; those of the form are compared for steps in -255..255.
 fn published_shift(key: &str, value: &[u8], steps: i32) -> Option<Option<Vec<u8>>> {
-    if is_peak_key(key) || is_gain_key(key) && !is_gain(value) {
+    if is_peak_key(key) {
+        return Some(peaks::moved(value, steps));
+    }
+    if is_gain_key(key) && !is_gain(value) {
         return Some(None);
     }
     let inside = if is_gain_key(key) { (-255..=255).contains(&steps) } else { is_range_domain(value) };
@@ -342,7 +346,7 @@ fn out(c: &mut Compare, key: &str, value: &[u8], steps: i32) {
     );
 }
 
-fn shift(c: &mut Compare, key: &str, value: &[u8], steps: i32) {
+pub fn shift(c: &mut Compare, key: &str, value: &[u8], steps: i32) {
     both(
         c,
         || format!("shift_stored_value of {key} by {steps}"),
@@ -829,6 +833,16 @@ fn record(r: &mut Record) {
         let (minus, millionths, rest) = exact_db(steps as i64);
         r.line(&words(&[&"db", &steps, &(minus as u8), &millionths, &rest]));
     }
+    // Peaks: by document 02, where the Rust has f64.
+    for (text, steps) in
+        [("0.000016", -20), ("1.000000", -28), ("99.999999", 0), ("99.999999", 1), ("00.500000", 0), ("0.9", 1)]
+    {
+        line(r, TRACK_PEAK, text.as_bytes(), steps);
+    }
+    for steps in -255..=255 {
+        let text = peaks::some_text(&mut r.rng);
+        line(r, TRACK_PEAK, text.as_bytes(), steps);
+    }
 }
 
 // ---- times
@@ -898,6 +912,7 @@ fn bench(b: &mut Bench) {
     for (what, key, value) in [
         ("a range", MINMAX, "094,168"),
         ("a gain text", TRACK_GAIN, "-3.500000 dB"),
+        ("a peak", TRACK_PEAK, "0.987654"),
         ("another key", "REPLAYGAIN_ALGORITHM", "EBU R128"),
     ] {
         let (key, value) = (black_box(key), black_box(value));
@@ -911,6 +926,19 @@ fn bench(b: &mut Bench) {
             },
         );
     }
+    let mut rng = Rng::new(1);
+    let texts: Vec<(String, i32)> = (0..1000).map(|i| (peaks::some_text(&mut rng), i % 61 - 30)).collect();
+    b.row(
+        "shift_stored_value, 1,000 peaks of every size by -30 to 30 steps",
+        || texts.iter().filter(|(text, steps)| published_shifted(TRACK_PEAK, text, *steps).is_some()).count(),
+        || {
+            let (mut moved, mut out, mut n) = (0, [0; 32], 0);
+            let shift = |(text, steps): &&(String, i32)| {
+                library::shift_into(TRACK_PEAK.as_bytes(), text.as_bytes(), *steps, &mut moved, &mut out, &mut n) == 0
+            };
+            texts.iter().filter(shift).count()
+        },
+    );
     let value = black_box("094,168");
     b.row(
         "range_wraps_out",

@@ -7,7 +7,7 @@ pub fn steps_to_db(steps: i32) -> f64 {
     steps as f64 * GAIN_STEP_DB
 }
 
-/// Peaks are outside the compared domain.
+/// A peak times the linear factor of so many decibels.
 pub fn apply_gain_to_peak(peak: f64, db: f64) -> f64 {
     peak * 10f64.powf(db / 20.0)
 }

@@ -15,6 +15,10 @@ returns-3 : tie.Need-returns-3
 unfolding rangeWrapsOut
 returns-3 c = rw (← c .before .before .kind-of .ensures, c .enum-told3 .given .1)
 
+returns-4 : tie.Need-returns-4
+unfolding rangeWrapsOut
+returns-4 c = rw (← c .before .before .kind-of .ensures, c .enum-told4 .given .1)
+
 pub range-wraps-out-spec : {M : Type 1} → statement M
 range-wraps-out-spec =
     tie.close
@@ -24,6 +28,8 @@ range-wraps-out-spec =
     (λ c κs. search needs)
     (λ c. search needs)
     (λ c. search needs)
+    (λ c. search needs)
     returns
     returns-2
-    returns-3)
+    returns-3
+    returns-4)

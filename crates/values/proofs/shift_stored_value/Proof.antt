@@ -13,7 +13,11 @@ returns-2 c = rw (← c .before .before .before .kind-of .ensures, c .before .en
 
 returns-3 : tie.Need-returns-3
 unfolding shiftStored
-returns-3 c = rw (← c .before .before .before .kind-of .ensures, c .before .enum-told3 .given .1) (c .as-found .ensures)
+returns-3 c = rw (← c .before .before .before .kind-of .ensures, c .before .enum-told3 .given .1) (c .shift-peak .ensures)
+
+returns-4 : tie.Need-returns-4
+unfolding shiftStored
+returns-4 c = rw (← c .before .before .before .kind-of .ensures, c .before .enum-told4 .given .1) (c .as-found .ensures)
 
 pub shift-stored-value-spec : {M : Type 1} → statement M
 shift-stored-value-spec =
@@ -26,6 +30,9 @@ shift-stored-value-spec =
     (λ c κs. search needs)
     (λ c. search needs)
     (λ c κs. search needs)
+    (λ c. search needs)
+    (λ c κs. search needs)
     returns
     returns-2
-    returns-3)
+    returns-3
+    returns-4)
