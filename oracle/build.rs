@@ -65,6 +65,16 @@ fn main() {
     println!("cargo:rerun-if-changed={}", ape.display());
     println!("cargo:rerun-if-changed={}", frame.display());
     println!("cargo:rustc-link-search=native={}", archive.display());
+    // A second build of the library, whose calls begin with `beside_` (see `oracle/singly`).
+    println!("cargo:rerun-if-env-changed=ZIBRUNNOS_BESIDE");
+    if let Some(beside) = env::var_os("ZIBRUNNOS_BESIDE").map(PathBuf::from) {
+        println!("cargo:rustc-cfg=beside");
+        println!("cargo:rustc-link-search=native={}", beside.display());
+        for name in ["c_utf8", "c_ape"] {
+            println!("cargo:rerun-if-changed={}", beside.join(format!("libbeside_{name}.a")).display());
+            println!("cargo:rustc-link-lib=static=beside_{name}");
+        }
+    }
     for name in ARCHIVES {
         println!("cargo:rerun-if-changed={}", archive.join(format!("lib{name}.a")).display());
         println!("cargo:rustc-link-lib=static={name}");

@@ -6,6 +6,7 @@
 //!                                                     text at every step, a quarter of an hour on two cores, and to `peaks` a million texts
 //!     oracle bench   [--ten] [NAME..]                 time both sides in one run, and print their ratios; `--ten` takes the ten rows of docs/BENCH.md
 //!     oracle once    [--ten] [NAME..]                 run each side of each row of the bench once, between marks: `oracle/bench` counts with it
+//!     oracle beside  TITLE                            time a second build of the library beside this one: `oracle/singly` links it
 //!
 //! NAME is a module of `cases`; without one, all of them. README.md says how to add one.
 
@@ -40,6 +41,10 @@ fn usage() -> ! {
 fn main() {
     let mut args = std::env::args().skip(1);
     let command = args.next().unwrap_or_else(|| usage());
+    #[cfg(beside)]
+    if command == "beside" {
+        return cases::beside::table(&args.next().unwrap_or_else(|| usage()));
+    }
     let (mut seed, mut count, mut every, mut check, mut ten) = (1u64, 1_000_000u64, false, false, false);
     let mut names = Vec::new();
     while let Some(arg) = args.next() {

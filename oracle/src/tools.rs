@@ -232,6 +232,15 @@ pub extern "C" fn oracle_mark() {
     black_box(());
 }
 
+/// The time of one call, from some turns of it.
+pub fn timed<T>(f: &mut impl FnMut() -> T, turns: u32) -> f64 {
+    let start = Instant::now();
+    for _ in 0..turns {
+        black_box(f());
+    }
+    start.elapsed().as_secs_f64() / turns as f64
+}
+
 impl Bench {
     pub fn new(once: bool, only: Option<&'static [&'static str]>) -> Self {
         Bench { rows: Vec::new(), once, only }
@@ -239,13 +248,6 @@ impl Bench {
 
     /// The best time of many rounds, the two sides in turn, each round some milliseconds long.
     pub fn row<A, B>(&mut self, what: &str, mut published: impl FnMut() -> A, mut ours: impl FnMut() -> B) {
-        fn once<T>(f: &mut impl FnMut() -> T, turns: u32) -> f64 {
-            let start = Instant::now();
-            for _ in 0..turns {
-                black_box(f());
-            }
-            start.elapsed().as_secs_f64() / turns as f64
-        }
         if self.only.is_some_and(|only| !only.contains(&what)) {
             return;
         }
@@ -262,13 +264,13 @@ impl Bench {
             return;
         }
         let mut turns = 1;
-        while once(&mut published, turns) * (turns as f64) < 0.002 && turns < 1 << 24 {
+        while timed(&mut published, turns) * (turns as f64) < 0.002 && turns < 1 << 24 {
             turns *= 2;
         }
         let (mut a, mut b) = (f64::MAX, f64::MAX);
         for _ in 0..60 {
-            a = a.min(once(&mut published, turns));
-            b = b.min(once(&mut ours, turns));
+            a = a.min(timed(&mut published, turns));
+            b = b.min(timed(&mut ours, turns));
         }
         self.rows.push((what.to_string(), a, b));
     }
@@ -289,7 +291,7 @@ impl Bench {
     }
 }
 
-fn time(seconds: f64) -> String {
+pub fn time(seconds: f64) -> String {
     match seconds {
         s if s < 1e-6 => format!("{:.1} ns", s * 1e9),
         s if s < 1e-3 => format!("{:.2} µs", s * 1e6),

@@ -31,11 +31,11 @@ pub begin : (s out : List ℕ) (o : ℕ) → o + length (lossy s) ≤ length out
 begin s out o h = record { done = []; same = refl; wrote = start out o (omega arith); inside = omega arith; long = refl; room = h }
 
 module _ {s out₀ out : List ℕ} {o₀ at o : ℕ} (x : State s out₀ o₀ out at o) where
-  -- what is to come is w and l
-  goes-on : (w l : List ℕ) → lossy (drop at s) ≡ w ++ l → lossy s ≡ (x .done ++ w) ++ l
+  -- what is to come is w and l: it goes on behind w, and there is room for both
+  pub goes-on : (w l : List ℕ) → lossy (drop at s) ≡ w ++ l → lossy s ≡ (x .done ++ w) ++ l
   goes-on w l e = x .same ∙ ap (λ (m : List ℕ). x .done ++ m) e ∙ sym (append-assoc (x .done) w l)
 
-  fits : (w l : List ℕ) → lossy (drop at s) ≡ w ++ l → o + length w + length l ≤ length out
+  pub fits : (w l : List ℕ) → lossy (drop at s) ≡ w ++ l → o + length w + length l ≤ length out
   fits w l e =
       let n : length (lossy s) ≡ (length (x .done) + length w) + length l = ap length (goes-on w l e) ∙ rw (length-append, length-append) in
       omega (arith, x .wrote .ends, x .long, x .room)

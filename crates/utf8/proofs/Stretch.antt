@@ -2,16 +2,18 @@
 use Prim.Native.Nat.{ℕ, zero, suc, _+_, _-_, _≤_, _<_}
 use native.Mathlib.Omega.{arith}
 use mathlib.Core.Path.{_≡_, refl, sym, ap, _∙_}
+use mathlib.Core.Bool.{true}
 use mathlib.Core.List.{List, [], _∷_, _++_}
-use lib.Dec.{eqb}
-use lib.ListN.{length, getD, drop, take-append-drop}
-use lib.Seq.{drop-cons, drop-drop, take-add}
+use lib.Dec.{ltb, eqb}
+use lib.ListN.{length, getD, take, drop, take-append-drop, length-drop}
+use lib.Seq.{drop-cons, drop-drop, take-add, take-length}
 use borrow.Author.Tests.{lt-ltb, ne-eqb}
 use Rattle.utf8.specs.declared.Part.the-variants.{Good, Bad}
-use Rattle.utf8.specs.Utf8.{stepOf, valid, validFrom}
+use Rattle.utf8.specs.Utf8.{stepOf, valid, validFrom, plain as ascii}
 use Rattle.utf8.proofs.Laws.{valid-plain, valid-append, valid-char}
 use Rattle.lists.specs.Bytes.{all}
 use Rattle.lists.specs.Write.{part}
+use Rattle.lists.proofs.All.{last-all}
 use Rattle.lists.proofs.Places.{length-part}
 use Rattle.utf8.specs.Runs.{Stretch, stopOf, Ran}
 use Rattle.utf8.proofs.Turn.{Turn, bad, ended}
@@ -33,6 +35,10 @@ none s at h =
     let z : at - at ≡ 0 = omega arith in
     record { order = omega arith; inside = h; good = rw z (unfold valid validFrom in refl) }
 
+-- at the front
+pub front : {s : List ℕ} {a e : ℕ} → a ≡ 0 → Stretch s 0 e → Stretch s a e
+front z x = rw z x
+
 pub join : {s : List ℕ} {a m e : ℕ} → Stretch s a m → Stretch s m e → Stretch s a e
 join {s} {a} {m} {e} x y =
     record {
@@ -48,6 +54,19 @@ plain {s} {a} {m} e x n h b =
     let one : e - m ≡ 1 = omega arith in
     let in-s : m < length s = omega arith in
     join x (record { order = omega arith; inside = h; good = rw (one, drop-cons s m 0) (valid-plain (getD s m 0 ∷ []) (rw (lt-ltb _ _ b))) })
+
+-- one more block of ASCII
+pub block : {s : List ℕ} {a m : ℕ} (w : ℕ) → Stretch s a m → ascii (take w (drop m s)) ≡ true → m + w ≤ length s → Stretch s a (m + w)
+block {s} {a} {m} w x e h =
+    let z : m + w - m ≡ w = omega arith in
+    join x (record { order = omega arith; inside = h; good = rw z (valid-plain (take w (drop m s)) e) })
+
+-- the last block, which may reach back into what was passed
+pub block-back : {s : List ℕ} {a m : ℕ} (w last : ℕ) → Stretch s a m → ascii (take w (drop last s)) ≡ true → length s ≡ last + w → last ≤ m → Stretch s a (length s)
+block-back {s} {a} {m} w last x e long h =
+    let n : length (drop m s) ≡ length s - m = length-drop m s in
+    let rest : ascii (drop m s) ≡ true = last-all (λ (b : ℕ). ltb b 0x80) s w last long e m h in
+    join x (record { order = x .inside; inside = omega arith; good = rw (← n, take-length) (valid-plain (drop m s) rest) })
 
 -- one more character
 pub char : {s : List ℕ} {a m n : ℕ} → Stretch s a m → stepOf (drop m s) ≡ Good n → m + n ≤ length s → Stretch s a (m + n)

@@ -195,6 +195,92 @@ fn plain_end(s: &[u8], from: usize) -> usize
     far_end(s, from + 32)
 }
 
+// Whether sixteen bytes from `at` are ASCII. All are looked at, so that the compiler tests them at once.
+fn plain_16(s: &[u8], at: usize) -> bool
+    requires { ⌜ at + 16 ≤ length (now s) ⌝ }
+    ensures { λ r. ⌜ r ≡ plain (take 16 (drop at (now (s .entry)))) ⌝ }
+{
+    let mut other = false;
+    let mut n = 0;
+    while n < 16 {
+        other = other | !(s[at + n] < 0x80);
+        n += 1;
+    }
+    !other
+}
+
+// The same of eight.
+fn plain_8(s: &[u8], at: usize) -> bool
+    requires { ⌜ at + 8 ≤ length (now s) ⌝ }
+    ensures { λ r. ⌜ r ≡ plain (take 8 (drop at (now (s .entry)))) ⌝ }
+{
+    let mut other = false;
+    let mut n = 0;
+    while n < 8 {
+        other = other | !(s[at + n] < 0x80);
+        n += 1;
+    }
+    !other
+}
+
+// How far eights of ASCII reach from the front of a short text. The last eight may reach back into the first.
+fn front_by_eights(s: &[u8]) -> usize
+    requires { ⌜ length (now s) ≤ 16 ⌝ }
+    ensures { λ r. ⌜ Stretch (now (s .entry)) 0 r ⌝ }
+{
+    if s.len() < 8 {
+        return 0;
+    }
+    let back = s.len() - 8;
+    if !plain_8(s, 0) {
+        return 0;
+    }
+    if !plain_8(s, back) {
+        return 8;
+    }
+    s.len()
+}
+
+// The same by sixteens, of which the last may reach back into those before.
+fn front_by_sixteens(s: &[u8]) -> usize
+    requires { ⌜ 16 ≤ length (now s) ⌝ }
+    ensures { λ r. ⌜ Stretch (now (s .entry)) 0 r ⌝ }
+{
+    let back = s.len() - 16;
+    let mut end = 0;
+    while end < back {
+        if !plain_16(s, end) {
+            return end;
+        }
+        end += 16;
+    }
+    if !plain_16(s, back) {
+        return end;
+    }
+    s.len()
+}
+
+// From how many bytes on ASCII is passed in longer blocks.
+const LONG: usize = 512;
+
+// How far blocks of ASCII reach from here, if this is the front of a text that is not long: most such texts are ASCII from end to end.
+// Elsewhere none is tried: among other characters few runs of ASCII are as long as a block.
+fn front_end(s: &[u8], from: usize) -> usize
+    requires { ⌜ from ≤ length (now s) ⌝ }
+    ensures { λ r. ⌜ Stretch (now (s .entry)) from r ⌝ }
+{
+    if 0 < from {
+        return from;
+    }
+    if s.len() < 16 {
+        return front_by_eights(s);
+    }
+    if s.len() >= LONG {
+        return from;
+    }
+    front_by_sixteens(s)
+}
+
 // Where the characters of three bytes from here end, of the row that has most of them.
 fn threes_end(table: &[u8; 256], s: &[u8], from: usize) -> usize
     requires { ⌜ (Classes (now table)) × (from ≤ length (now s)) ⌝ }
@@ -219,7 +305,7 @@ pub fn run_from(table: &[u8; 256], s: &[u8], from: usize) -> Run
     requires { ⌜ (Classes (now table)) × (from ≤ length (now s)) ⌝ }
     ensures { λ r. ⌜ Ran (now (s .entry)) from (r .end) (r .bad) ⌝ }
 {
-    let mut at = from;
+    let mut at = front_end(s, from);
     while at < s.len() {
         if s[at] < 0x80 {
             at = plain_end(s, at + 1);
@@ -248,20 +334,6 @@ pub fn is_utf8_by(table: &[u8; 256], s: &[u8]) -> bool
 {
     let r = run_from(table, s, 0);
     r.bad == 0
-}
-
-// Whether sixteen bytes from `at` are ASCII. All are looked at, so that the compiler tests them at once.
-fn plain_16(s: &[u8], at: usize) -> bool
-    requires { ⌜ at + 16 ≤ length (now s) ⌝ }
-    ensures { λ r. ⌜ r ≡ plain (take 16 (drop at (now (s .entry)))) ⌝ }
-{
-    let mut other = false;
-    let mut n = 0;
-    while n < 16 {
-        other = other | !(s[at + n] < 0x80);
-        n += 1;
-    }
-    !other
 }
 
 // Whether every byte is, one after another.
@@ -299,9 +371,6 @@ fn is_plain(s: &[u8]) -> bool
     }
     true
 }
-
-// From how many bytes on ASCII is passed in longer blocks, behind the table.
-const LONG: usize = 512;
 
 // Whether a text is ASCII that needs no table.
 fn is_short_plain(s: &[u8]) -> bool

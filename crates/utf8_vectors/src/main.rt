@@ -1,4 +1,4 @@
-// Replays the recorded answers of Rust's standard library for crates utf8 and lossy.
+// Replays the recorded answers of Rust's standard library for crates utf8, lossy and singly.
 ghost use Prim.Native.Nat.{_≤_};
 use lossy::Converted;
 use vectors::Replay;
@@ -46,6 +46,15 @@ fn refuses(s: &[u8], m: usize) -> bool
     same(&out, &none)
 }
 
+// Whether the single-byte conversion gives the same in room for m bytes.
+fn singly(s: &[u8], m: usize) -> bool
+    requires { ⌜ m ≤ 3072 ⌝ }
+{
+    let mut blocks = [0u8; 3072];
+    let mut single = [0u8; 3072];
+    singly::both_same(s, &mut blocks[0..m], &mut single[0..m])
+}
+
 // `lossy TEXT CONVERTED`: in exactly enough room, and in one byte less.
 fn lossy(text: &[u8], at: usize) -> bool {
     let mut s = [0u8; 1024];
@@ -53,11 +62,11 @@ fn lossy(text: &[u8], at: usize) -> bool {
     let mut wanted = [0u8; 3072];
     let m = words::hex_bytes(text, words::next_word(text, at), &mut wanted);
     if 0 < m {
-        if !refuses(&s[0..n], m - 1) {
+        if !refuses(&s[0..n], m - 1) | !singly(&s[0..n], m - 1) {
             return false;
         }
     }
-    writes(&s[0..n], m, &wanted)
+    writes(&s[0..n], m, &wanted) & singly(&s[0..n], m)
 }
 
 // `size TEXT ROOM SIZE`: how long the conversion is, or `none` where there is not so much room.

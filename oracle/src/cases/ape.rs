@@ -590,6 +590,17 @@ extern "C" fn footer_face(file: *const u8, length: usize, there: &mut u32, foote
     0
 }
 
+/// The row of a tag as halls have it.
+pub const LETTERED: &str = "read_ape_tag, 41 items, values of 5 to 40 letters";
+
+/// Its tag: keys of 6 to 22 letters.
+pub fn lettered_tag() -> ApeTag {
+    let mut rng = Rng::new(1);
+    let mut letters = |n| (0..n).map(|_| (b'a' + rng.below(26) as u8) as char).collect::<String>();
+    let sizes = |i: usize| (6 + i * 7 % 17, 5 + i * 11 % 36);
+    tag_of((0..41).map(sizes).map(|(key, value)| item(&letters(key), &letters(value))).collect())
+}
+
 fn bench(b: &mut Bench) {
     let value = "The quick brown fox jumps over the lazy dog";
     for (n, things) in [(1, "item"), (41, "items")] {
@@ -609,6 +620,9 @@ fn bench(b: &mut Bench) {
             || library::serialize_ape_tag(&area, n, &mut out),
         );
     }
+    let file = reach::replace(&vec![0x55; 4096], &lettered_tag());
+    let mut area = vec![0; 3 * file.len()];
+    b.row(LETTERED, || read_ape_tag(&file), || library::read_ape_tag(&file, &mut area));
     let tag = tag_of(vec![item("TEXT", &value.repeat((1 << 20) / value.len()))]);
     let file = reach::replace(b"", &tag);
     let mut area = vec![0; 3 * file.len()];

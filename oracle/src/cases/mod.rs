@@ -3,6 +3,8 @@
 use crate::tools::{Bench, Compare, Record};
 
 mod ape;
+#[cfg(beside)]
+pub mod beside;
 mod edit;
 mod flags;
 mod frame;

@@ -7,7 +7,7 @@ use crate::tools::{hex, Bench, Compare, Record, Rng};
 pub const CASE: Case = Case { name: "utf8", record, compare, bench };
 
 /// The exported functions, as Rust.
-mod library {
+pub mod library {
     extern "C" {
         fn zib_is_utf8(text: *const u8, length: usize) -> bool;
         fn zib_lossy_size(text: *const u8, length: usize, room: usize, size: *mut usize) -> u32;
@@ -168,7 +168,7 @@ fn compare(c: &mut Compare) {
         every(n, &EDGES, |s| one(c, s, &mut out));
     }
     // Runs of ASCII about the lengths at which they are passed in blocks, with a character or a loose byte at each place.
-    for n in 0..=200 {
+    for n in (0..=200).chain(505..=520) {
         for at in 0..=n {
             for other in [&b""[..], b"\x80", "é".as_bytes(), "€".as_bytes()] {
                 let ascii = vec![0x7F; n];
@@ -247,7 +247,8 @@ fn record(r: &mut Record) {
     }
 }
 
-fn bench(b: &mut Bench) {
+/// A mebibyte of each kind of text that is measured.
+pub fn mebibytes() -> [(&'static str, Vec<u8>); 4] {
     let n = 1 << 20;
     let mut rng = Rng::new(1);
     let text = |rng: &mut Rng, from: &dyn Fn(&mut Rng) -> char| {
@@ -268,7 +269,11 @@ fn bench(b: &mut Bench) {
     });
     let cjk = text(&mut rng, &|r| char::from_u32(0x4E00 + r.below(0x5000) as u32).unwrap());
     let random = rng.bytes(n);
-    for (name, s) in [("ASCII", &ascii), ("European", &european), ("CJK", &cjk), ("random bytes", &random)] {
+    [("ASCII", ascii), ("European", european), ("CJK", cjk), ("random bytes", random)]
+}
+
+fn bench(b: &mut Bench) {
+    for (name, s) in &mebibytes() {
         b.row(&format!("is_utf8, 1 MiB of {name}"), || std::str::from_utf8(s).is_ok(), || library::is_utf8(s));
         let size = String::from_utf8_lossy(s).len();
         b.row(

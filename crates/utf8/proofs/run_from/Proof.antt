@@ -8,7 +8,7 @@ use Rattle.utf8.specs.declared.Part.the-variants.{Good, Bad}
 use Rattle.utf8.specs.Utf8.{stepOf}
 use Rattle.utf8.specs.Runs.{Stretch}
 use Rattle.utf8.proofs.Turn.{Turn, good, bad}
-use Rattle.utf8.proofs.Stretch.{none, join, plain, char, stops}
+use Rattle.utf8.proofs.Stretch.{join, plain, char, stops}
 use Rattle.utf8.proofs.run_from.Statement.{statement}
 use Rattle.utf8.proofs.run_from.Tie as tie
 
@@ -18,10 +18,10 @@ Inv-loop table s from at₀ at = Stretch s from at
 abbrev μ-loop : tie.MeasureT-loop
 μ-loop table s from at₀ at = length s - at
 
-goes : (c : tie.After-known-told Inv-loop μ-loop) → Turn (c .before .before .before .before .before .before .before .before .before .args .s .now) (c .before .before .before .before .before .before .before .loop .at) (Good (c .before .x .given .0 .0))
+goes : (c : tie.After-known-told Inv-loop μ-loop) → Turn (c .before .before .before .before .before .before .before .before .before .before .args .s .now) (c .before .before .before .before .before .before .before .loop .at) (Good (c .before .x .given .0 .0))
 goes c = good (c .before .before .before .step-by .ensures) (c .before .x .given .1)
 
-fails : (c : tie.After-known-told2 Inv-loop μ-loop) → Turn (c .before .before .before .before .before .before .before .before .before .args .s .now) (c .before .before .before .before .before .before .before .loop .at) (Bad (c .before .x2 .given .0 .0))
+fails : (c : tie.After-known-told2 Inv-loop μ-loop) → Turn (c .before .before .before .before .before .before .before .before .before .before .args .s .now) (c .before .before .before .before .before .before .before .loop .at) (Bad (c .before .x2 .given .0 .0))
 fails c = bad (c .before .before .before .step-by .ensures) (c .before .x2 .given .1)
 
 loop-again : tie.Need-loop-again Inv-loop μ-loop
@@ -47,7 +47,7 @@ unfolding stepOf
 returns-3 c =
     let l = c .before .loop in
     let p = l .inv in
-    record { stretch = p; inside = omega (arith, p .inside); stop = rw (drop-of-length-le (c .before .before .before .args .s .now) {i = l .at} (omega arith)) }
+    record { stretch = p; inside = omega (arith, p .inside); stop = rw (drop-of-length-le (c .before .before .before .before .args .s .now) {i = l .at} (omega arith)) }
 
 pub run-from-spec : {M : Type 1} → statement M
 run-from-spec =
@@ -55,7 +55,8 @@ run-from-spec =
     (tie.spec
     Inv-loop
     μ-loop
-    (λ c. none _ _ (c .before .pre .1))
+    (λ c κs. c .before .pre .1)
+    (λ c. c .front-end .ensures)
     (λ c. search needs)
     (λ c. search needs)
     (λ c κs. omega arith)
@@ -64,7 +65,7 @@ run-from-spec =
     (λ c κs. search needs)
     (λ c. search needs)
     (λ c. omega (arith, goes c .inside))
-    (λ c κs. (c .before .before .before .before .before .before .before .before .before .pre .0, goes c .inside))
+    (λ c κs. (c .before .before .before .before .before .before .before .before .before .before .pre .0, goes c .inside))
     (λ c. let t = goes (c .before) in omega (arith, t .moves, c .threes-end .ensures .order, c .threes-end .ensures .inside))
     loop-again-2
     (λ c. search needs)
