@@ -244,6 +244,12 @@ uint32_t zib_shift_stored_value(
     const uint8_t *key, size_t key_len, const uint8_t *value, size_t value_len, int32_t steps, uint32_t *moved, uint8_t *out,
     size_t out_len, size_t *written);
 
+/* ---- Amplitudes for a mixer: libc_amplitudes.a */
+
+/* Gives 2 to the power steps / 4 for either side, the factor by which so many steps change an amplitude: a whole power of two times the double
+ * nearest to the fourth root of 1, 2, 4 or 8, with nothing rounded. Zero steps give exactly 1.0. Refusal 2. */
+uint32_t zib_amplitudes(int32_t left_steps, int32_t right_steps, double *left, double *right);
+
 /* ---- UTF-8: libc_utf8.a */
 
 /* Answers whether the text is UTF-8. */

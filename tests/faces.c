@@ -120,6 +120,17 @@ static void slips(void)
     CHECK(zib_remove_ape_item(one, n, TEXT("MP3GAIN_UNDO"), two, sizeof two, &m) == 0 && IS(two, m, "audio"));
 }
 
+/* A caller's own struct gets both amplitudes; a refused call leaves them. */
+static void amplitudes(void)
+{
+    struct { double left, right; } pair = {7, 8};
+    CHECK(zib_amplitudes(0, -8, &pair.left, &pair.right) == 0 && pair.left == 1.0 && pair.right == 0.25);
+    CHECK(zib_amplitudes(256, 0, &pair.left, &pair.right) == ZIB_STEP_OUT_OF_RANGE && pair.left == 1.0 && pair.right == 0.25);
+    CHECK(zib_amplitudes(0, -256, &pair.left, &pair.right) == ZIB_STEP_OUT_OF_RANGE && pair.left == 1.0 && pair.right == 0.25);
+    CHECK(zib_amplitudes(-1, 2, &pair.left, &pair.right) == 0 && pair.left == 0x1.ae89f995ad3adp-1 && pair.right == 0x1.6a09e667f3bcdp0);
+    CHECK(zib_amplitudes(255, -255, &pair.left, &pair.right) == 0 && pair.left == 0x1.ae89f995ad3adp63 && pair.right == 0x1.306fe0a31b715p-64);
+}
+
 static void items(void)
 {
     uint8_t a[256], b[256];
@@ -350,6 +361,7 @@ int main(void)
     utf8();
     values();
     slips();
+    amplitudes();
     items();
     files();
     pictures();

@@ -59,7 +59,7 @@ static const char *names[] = {
     "zib_get_undo_gain", "zib_set", "zib_remove", "zib_remove_replaygain", "zib_drop_undone", "zib_take_mp3gain", "zib_set_undo_gain", "zib_set_minmax",
     "zib_set_replaygain", "zib_parse_undo", "zib_format_undo_value", "zib_accumulate_undo", "zib_format_minmax", "zib_range_wraps_out",
     "zib_steps_to_db", "zib_shift_stored_value", "zib_parse_slip", "zib_is_utf8", "zib_lossy_size", "zib_lossy_into", "zib_read_u32_le",
-    "zib_ends_with_id3v1", "zib_ape_tag_start", "zib_adjust_gain_value", "zib_resolve_mode", "zib_level_by_slip",
+    "zib_ends_with_id3v1", "zib_ape_tag_start", "zib_adjust_gain_value", "zib_resolve_mode", "zib_level_by_slip", "zib_amplitudes",
 };
 enum { CALLS = sizeof names / sizeof *names, WAYS = 3 };
 
@@ -71,6 +71,7 @@ static void call(int which, int way, int tag)
     static uint32_t t, f;
     static int32_t l, r;
     static uint64_t m, e;
+    static double x, y;
     const uint8_t *k = (const uint8_t *)(way == 0 ? "MP3GAIN_UNDO" : way == 1 ? "new key here" : "FILLER\0\0\0\0\0\0"), *v = (const uint8_t *)"-3.500000 dB\xe2\x82\xac";
     size_t kn = way == 2 ? 6 : 12, vn = way == 2 ? 12 : 15;
     uint32_t reply = 0;
@@ -155,6 +156,7 @@ static void call(int which, int way, int tag)
         }
         break;
     }
+    case 42: zib_amplitudes(-3, way == 1 ? 256 : 5, &x, &y); break;
     }
 }
 

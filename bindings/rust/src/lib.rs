@@ -838,6 +838,31 @@ pub fn steps_to_db(steps: i32) -> Decibels {
     Decibels { minus: minus == 1, millionths, rest }
 }
 
+/// The factors by which steps change the amplitude of either side.
+#[derive(Clone, Copy, Debug, PartialEq)]
+pub struct Amplitudes {
+    pub left: f64,
+    pub right: f64,
+}
+
+/// Gives 2 to the power steps / 4 for either side: a whole power of two times the `f64` nearest to the fourth root of 1, 2, 4 or 8, with
+/// nothing rounded. Zero steps give exactly 1.0.
+///
+/// ```
+/// use zibrunnos::{amplitudes, Amplitudes, Refusal};
+///
+/// assert_eq!(amplitudes(0, -8)?, Amplitudes { left: 1.0, right: 0.25 });
+/// assert_eq!(amplitudes(2, 0)?.left, std::f64::consts::SQRT_2);
+/// assert_eq!(amplitudes(0, 256), Err(Refusal::StepOutOfRange));
+/// # Ok::<(), zibrunnos::Refusal>(())
+/// ```
+pub fn amplitudes(left_steps: i32, right_steps: i32) -> Result<Amplitudes> {
+    let mut pair = Amplitudes { left: 0.0, right: 0.0 };
+    // SAFETY: numbers only.
+    let reply = unsafe { raw::zib_amplitudes(left_steps, right_steps, &mut pair.left, &mut pair.right) };
+    done(reply, pair)
+}
+
 /// Moves one stored value, a range, a gain text or a peak, by so many steps and gives its new text; `None` where the value stays as it is.
 pub fn shift_stored_value(key: &[u8], value: &[u8], steps: i32) -> Option<String> {
     let mut moved = 0;

@@ -64,6 +64,8 @@ extern "C" {
         peaks: *mut usize,
     ) -> u32;
 
+    pub fn zib_amplitudes(left_steps: i32, right_steps: i32, left: *mut f64, right: *mut f64) -> u32;
+
     pub fn zib_is_key(key: *const u8, key_len: usize) -> bool;
     pub fn zib_which_key(key: *const u8, key_len: usize) -> usize;
     pub fn zib_item_at(

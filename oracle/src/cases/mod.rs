@@ -2,6 +2,7 @@
 
 use crate::tools::{Bench, Compare, Record};
 
+mod amplitudes;
 mod ape;
 #[cfg(beside)]
 pub mod beside;
@@ -36,4 +37,5 @@ pub const ALL: &[Case] = &[
     reversal::CASE,
     listing::CASE,
     flags::CASE,
+    amplitudes::CASE,
 ];
