@@ -250,6 +250,25 @@ uint32_t zib_shift_stored_value(
  * nearest to the fourth root of 1, 2, 4 or 8, with nothing rounded. Zero steps give exactly 1.0. Refusal 2. */
 uint32_t zib_amplitudes(int32_t left_steps, int32_t right_steps, double *left, double *right);
 
+/* ---- Ranges read at fixed places, as an older tool reads them, beside the fields that this library parses: libc_fixed_ranges.a */
+
+/* What the two views of a text say of each other. */
+enum zib_views {
+    ZIB_VIEWS_AGREE = 0,  /* both read it, as the same two numbers */
+    ZIB_VIEWS_DIFFER = 1, /* both read it, as other numbers */
+    ZIB_ONLY_OURS = 2,    /* its fields parse, and it has no numbers at the fixed places */
+    ZIB_ONLY_FIXED = 3,   /* it has numbers at the fixed places, and its fields do not parse */
+    ZIB_NEITHER = 4       /* neither reads it */
+};
+
+/* Reads bytes 0 to 2 and bytes 4 to 6 of a text, each as its leading digits, and answers whether both have one; where not, `first` and
+ * `second` stay as they were. The numbers go up to 999, and byte 3 is not looked at. */
+bool zib_fixed_range(const uint8_t *text, size_t text_len, uint32_t *first, uint32_t *second);
+
+/* Answers what the two views of a text say of each other, as a number of enum zib_views. Of every range that this library writes it is
+ * ZIB_VIEWS_AGREE. */
+uint8_t zib_compare_range_views(const uint8_t *text, size_t text_len);
+
 /* ---- UTF-8: libc_utf8.a */
 
 /* Answers whether the text is UTF-8. */

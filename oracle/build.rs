@@ -31,8 +31,20 @@ pub(crate) mod reach {
 "#;
 
 /// The library's archives, one for each module.
-const ARCHIVES: [&str; 11] =
-    ["c_frame", "c_utf8", "c_values", "c_amplitudes", "c_items", "c_area", "c_ape", "c_edit", "c_level", "c_slip", "c_list"];
+const ARCHIVES: [&str; 12] = [
+    "c_frame",
+    "c_utf8",
+    "c_values",
+    "c_amplitudes",
+    "c_fixed_ranges",
+    "c_items",
+    "c_area",
+    "c_ape",
+    "c_edit",
+    "c_level",
+    "c_slip",
+    "c_list",
+];
 
 fn fail(text: &str) -> ! {
     eprintln!("oracle: {text}");

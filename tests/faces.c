@@ -131,6 +131,24 @@ static void amplitudes(void)
     CHECK(zib_amplitudes(255, -255, &pair.left, &pair.right) == 0 && pair.left == 0x1.ae89f995ad3adp63 && pair.right == 0x1.306fe0a31b715p-64);
 }
 
+/* Where the fixed view reads nothing, both lent numbers stay. */
+static void fixed_ranges(void)
+{
+    uint32_t first = 7, second = 8;
+    uint8_t out[7];
+    size_t n = 0;
+    CHECK(!zib_fixed_range(TEXT("+94,168"), &first, &second) && first == 7 && second == 8);
+    CHECK(!zib_fixed_range(TEXT("0,0"), &first, &second) && first == 7 && second == 8);
+    CHECK(zib_fixed_range(TEXT("94,168"), &first, &second) && first == 94 && second == 68);
+    CHECK(zib_fixed_range(TEXT("999;001"), &first, &second) && first == 999 && second == 1);
+    CHECK(zib_format_minmax(94, 168, out, sizeof out, &n) == 0 && zib_compare_range_views(out, n) == ZIB_VIEWS_AGREE);
+    CHECK(zib_compare_range_views(TEXT("94 ,68 ")) == ZIB_VIEWS_AGREE && zib_compare_range_views(TEXT("0,000")) == ZIB_VIEWS_AGREE);
+    CHECK(zib_compare_range_views(TEXT("94,168")) == ZIB_VIEWS_DIFFER && zib_compare_range_views(TEXT("0,200")) == ZIB_VIEWS_DIFFER);
+    CHECK(zib_compare_range_views(TEXT("0094,168")) == ZIB_ONLY_OURS && zib_compare_range_views(TEXT("0,0")) == ZIB_ONLY_OURS);
+    CHECK(zib_compare_range_views(TEXT("999,001")) == ZIB_ONLY_FIXED && zib_compare_range_views(TEXT("094;168")) == ZIB_ONLY_FIXED);
+    CHECK(zib_compare_range_views(TEXT("1094,168")) == ZIB_NEITHER);
+}
+
 static void items(void)
 {
     uint8_t a[256], b[256];
@@ -252,6 +270,7 @@ static void empty(void)
     CHECK(zib_level_by_slip(NONE, NONE, NONE, NONE, NONE, &a, &b) == ZIB_MALFORMED_SLIP);
     CHECK(zib_level_by_slip(TEXT(FIVES), NONE, NONE, NONE, NONE, &a, &b) == ZIB_NO_LEFT_GAINS);
     CHECK(zib_level_by_slip(TEXT(FIVES), NONE, gain, 1, NONE, NONE, &a, &b) == ZIB_NO_ROOM && gain[0] == 9);
+    CHECK(!zib_fixed_range(NONE, &there, &flag) && zib_compare_range_views(NONE) == ZIB_NEITHER);
     CHECK(!zib_is_key(NONE) && zib_which_key(NONE) == 8);
     CHECK(zib_item_at(NONE, 0, &there, &flag, &a, &b, &c, &d) == 0 && there == 0 && flag == 0 && a == 0 && b == 0 && c == 0 && d == 0);
     CHECK(zib_get(NONE, 0, TEXT("AB"), &there, &a, &b, &flag) == 0 && there == 0 && flag == 0);
@@ -362,6 +381,7 @@ int main(void)
     values();
     slips();
     amplitudes();
+    fixed_ranges();
     items();
     files();
     pictures();

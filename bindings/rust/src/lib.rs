@@ -863,6 +863,62 @@ pub fn amplitudes(left_steps: i32, right_steps: i32) -> Result<Amplitudes> {
     done(reply, pair)
 }
 
+/// The two numbers that stand at the fixed places of a text.
+#[derive(Clone, Copy, Debug, PartialEq, Eq)]
+pub struct FixedRange {
+    /// That of bytes 0 to 2.
+    pub first: u32,
+    /// That of bytes 4 to 6.
+    pub second: u32,
+}
+
+/// Reads a range as an older tool does: bytes 0 to 2 and bytes 4 to 6, each as its leading digits. `None` where one of them has none.
+///
+/// ```
+/// use zibrunnos::{fixed_range, FixedRange};
+///
+/// assert_eq!(fixed_range(b"94,168"), Some(FixedRange { first: 94, second: 68 }));
+/// assert_eq!(fixed_range(b"+94,168"), None);
+/// ```
+pub fn fixed_range(text: &[u8]) -> Option<FixedRange> {
+    let mut range = FixedRange { first: 0, second: 0 };
+    // SAFETY: a slice by its pointer and length, and numbers.
+    let there = unsafe { raw::zib_fixed_range(text.as_ptr(), text.len(), &mut range.first, &mut range.second) };
+    there.then_some(range)
+}
+
+/// What the fields of a text, which this library parses, and its fixed places, which an older tool reads, say of each other.
+#[derive(Clone, Copy, Debug, PartialEq, Eq)]
+pub enum Views {
+    /// Both read it, as the same two numbers.
+    Agree,
+    /// Both read it, as other numbers.
+    Differ,
+    /// Its fields parse, and it has no numbers at the fixed places.
+    OnlyOurs,
+    /// It has numbers at the fixed places, and its fields do not parse.
+    OnlyFixed,
+    /// Neither reads it.
+    Neither,
+}
+
+/// Compares the two views of a text. Of every range that this library writes they agree.
+///
+/// ```
+/// use zibrunnos::{compare_range_views, format_minmax, Views};
+///
+/// assert_eq!(compare_range_views(format_minmax(94, 168).as_bytes()), Views::Agree);
+/// assert_eq!(compare_range_views(b"94,168"), Views::Differ);
+/// assert_eq!(compare_range_views(b"0094,168"), Views::OnlyOurs);
+/// assert_eq!(compare_range_views(b"999,001"), Views::OnlyFixed);
+/// assert_eq!(compare_range_views(b"1094,168"), Views::Neither);
+/// ```
+pub fn compare_range_views(text: &[u8]) -> Views {
+    let all = [Views::Agree, Views::Differ, Views::OnlyOurs, Views::OnlyFixed, Views::Neither];
+    // SAFETY: a slice by its pointer and length.
+    all[unsafe { raw::zib_compare_range_views(text.as_ptr(), text.len()) } as usize]
+}
+
 /// Moves one stored value, a range, a gain text or a peak, by so many steps and gives its new text; `None` where the value stays as it is.
 pub fn shift_stored_value(key: &[u8], value: &[u8], steps: i32) -> Option<String> {
     let mut moved = 0;

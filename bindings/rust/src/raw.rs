@@ -65,6 +65,8 @@ extern "C" {
     ) -> u32;
 
     pub fn zib_amplitudes(left_steps: i32, right_steps: i32, left: *mut f64, right: *mut f64) -> u32;
+    pub fn zib_fixed_range(text: *const u8, text_len: usize, first: *mut u32, second: *mut u32) -> bool;
+    pub fn zib_compare_range_views(text: *const u8, text_len: usize) -> u8;
 
     pub fn zib_is_key(key: *const u8, key_len: usize) -> bool;
     pub fn zib_which_key(key: *const u8, key_len: usize) -> usize;

@@ -41,7 +41,7 @@ fn is_space(x: u8) -> bool
     x == 32
 }
 
-fn is_digit(x: u8) -> bool
+pub fn is_digit(x: u8) -> bool
     ensures { λ r. ⌜ r ≡ R.isDigit x ⌝ }
 {
     if x < 48 {

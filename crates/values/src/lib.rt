@@ -170,7 +170,7 @@ pub fn accumulate_undo(text: &[u8], left: GainSteps, right: GainSteps) -> UndoVa
 }
 
 // Reads a range: all before and all after the first comma.
-fn parse_range(text: &[u8]) -> RangeField
+pub fn parse_range(text: &[u8]) -> RangeField
     ensures { λ r. ⌜ r ≡ R.rangeIs (R.parseRange (now (text .entry))) ⌝ }
 {
     let comma = lists::find_byte(text, 0, b',');

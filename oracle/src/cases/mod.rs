@@ -7,6 +7,7 @@ mod ape;
 #[cfg(beside)]
 pub mod beside;
 mod edit;
+mod fixed_ranges;
 mod flags;
 mod frame;
 mod items;
@@ -38,4 +39,5 @@ pub const ALL: &[Case] = &[
     listing::CASE,
     flags::CASE,
     amplitudes::CASE,
+    fixed_ranges::CASE,
 ];
