@@ -60,7 +60,7 @@ enum zib_mode {
 /* Moves every gain by its side's steps and writes the file with the undo item and the range of all gains in its tag. A gain is the 8-bit
  * global_gain of a granule and channel of an MP3 frame; the caller reads the gains from the sound and writes them back. `wrap` is the flag:
  * false for N (a gain is held within 0..255, and 0 stays 0), true for W (modulo 256). `right` is empty for a mono file. The new file goes
- * to the front of `out` and its length to `written`; `peaks` is the number of peak items in its tag, which stay as they were. An output of
+ * to the front of `out` and its length to `written`; `peaks` is the number of peak items in its tag that were left as found. An output of
  * file_len + 32 * ZIB_ITEM_LIMIT + 140 bytes is long enough for every file. Refusals 1, 2, 7, 8, 14, 9, 11, 6 and 5. */
 uint32_t zib_level(
     const uint8_t *file, size_t file_len, uint8_t *left, size_t left_len, uint8_t *right, size_t right_len, int32_t left_steps,

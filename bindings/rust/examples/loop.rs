@@ -208,8 +208,8 @@ pub fn changed(file: &[u8], call: Call) -> Result<(Vec<u8>, Vec<String>), String
         }
         match new.peaks {
             0 => {}
-            1 => notes.push("the peak in its tag was not changed: it is still that from before".to_string()),
-            n => notes.push(format!("the {n} peaks in its tag were not changed: they are still those from before")),
+            1 => notes.push("1 peak in its tag was left as it was: it is still that from before".to_string()),
+            n => notes.push(format!("{n} peaks in its tag were left as they were: they are still those from before")),
         }
     }
     match left_out {

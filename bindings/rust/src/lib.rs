@@ -593,7 +593,7 @@ pub fn remove_item(file: &[u8], key: &[u8]) -> Result<Vec<u8>> {
 pub struct Levelled {
     /// The new file. Its sound is that of the old one: the caller writes the new gains into it.
     pub file: Vec<u8>,
-    /// How many peak items the new tag holds. They stay as they were, so they are those of the old loudness; 0 after an undo.
+    /// How many peak items of the new tag were left as found, so that they are those of the old loudness; 0 after an undo.
     pub peaks: usize,
 }
 

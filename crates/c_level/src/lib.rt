@@ -33,7 +33,7 @@ pub fn put_answer(w: LevelAnswer, written: &mut usize, peaks: &mut usize) -> u32
 }
 
 // Every gain moved by its side's steps, under W if `wrap`, and the file with the items that say so written to the front of `out`, its length into
-// `written` and the number of its peak items into `peaks`. Refusals 1, 2, 7, 8, 14, 9, 11, 6 and 5.
+// `written` and the number of its peak items that were left as found into `peaks`. Refusals 1, 2, 7, 8, 14, 9, 11, 6 and 5.
 #[no_mangle]
 pub extern "C" fn zib_level(
     file: &[u8],
@@ -66,8 +66,8 @@ pub extern "C" fn zib_level(
     put_answer(w, written, peaks)
 }
 
-// Every gain moved back by the stored undo, and the file without the eight keys written to the front of `out`, its length into `written` and the
-// number of its peak items into `peaks`. Refusals 1, 7, 8, 14, 10 and 5.
+// Every gain moved back by the stored undo, and the file without the eight keys written to the front of `out`, its length into `written` and 0
+// into `peaks`. Refusals 1, 7, 8, 14, 10 and 5.
 #[no_mangle]
 pub extern "C" fn zib_undo(
     file: &[u8],

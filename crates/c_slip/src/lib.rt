@@ -84,7 +84,7 @@ pub extern "C" fn zib_resolve_mode(file: &[u8], mode: u32, resolved: &mut u32) -
 }
 
 // Level as a slip asks: every gain moved, and the file with the items that say so written to the front of `out`, its length into `written` and
-// the number of its peak items into `peaks`. Refusals 13, 1, 2, 7, 8, 14, 9, 11, 6 and 5.
+// the number of its peak items that were left as found into `peaks`. Refusals 13, 1, 2, 7, 8, 14, 9, 11, 6 and 5.
 #[no_mangle]
 pub extern "C" fn zib_level_by_slip(
     slip: &[u8],

@@ -575,6 +575,25 @@ pub fn record(r: &mut Record) {
     }
 }
 
+/// What a Rust program does with the published functions to level a file by one step.
+fn rust_level(file: &[u8], left: &mut [u8], right: &mut [u8], wrap: Option<bool>) -> Vec<u8> {
+    let mut tag = read_ape_tag(file).unwrap();
+    let wrap = wrap.unwrap_or_else(|| parse_undo_wrap(tag.get(UNDO)));
+    let (x, y) = accumulate_undo(tag.get(UNDO), (1, 1));
+    tag.shift_stored_gain(1, wrap);
+    let (mut least, mut greatest) = (255, 0);
+    for gains in [left, right] {
+        for g in gains.iter_mut() {
+            *g = adjust_gain_value(*g, 1, GainMode::from_wrap(wrap));
+            least = least.min(*g);
+            greatest = greatest.max(*g);
+        }
+    }
+    tag.set_undo_gain(x, y, wrap);
+    tag.set_minmax(least, greatest);
+    reach::replace(file, &tag)
+}
+
 pub fn bench(b: &mut Bench) {
     let value = "The quick brown fox jumps over the lazy dog";
     for (size, name) in [(4 << 10, "4 KiB"), (1 << 20, "1 MiB"), ((16 << 20) - 8192, "16 MiB")] {
@@ -592,23 +611,21 @@ pub fn bench(b: &mut Bench) {
                     "level on a file of {name}, 41 items, 10,000 gains, {} (Rust: read, accumulate, shift, adjust, set, replace; no gate)",
                     flag(wrap)
                 ),
-                || {
-                    let mut tag = read_ape_tag(&file).unwrap();
-                    let (x, y) = accumulate_undo(tag.get(UNDO), (1, 1));
-                    tag.shift_stored_gain(1, wrap);
-                    let (mut least, mut greatest) = (255, 0);
-                    for gains in [&mut left, &mut right] {
-                        for g in gains.iter_mut() {
-                            *g = adjust_gain_value(*g, 1, GainMode::from_wrap(wrap));
-                            least = least.min(*g);
-                            greatest = greatest.max(*g);
-                        }
-                    }
-                    tag.set_undo_gain(x, y, wrap);
-                    tag.set_minmax(least, greatest);
-                    reach::replace(&file, &tag)
-                },
+                || rust_level(&file, &mut left, &mut right, Some(wrap)),
                 || library::level(&file, &mut l, &mut r, by(1, 1, wrap), &mut out),
+            );
+            if size > 4 << 10 || !wrap {
+                continue;
+            }
+            b.row(
+                "resolve_mode on a file of 4 KiB, 41 items (Rust: read, get, the flag; no gate)",
+                || parse_undo_wrap(read_ape_tag(&file).unwrap().get(UNDO)),
+                || library::resolve_mode(&file, 2),
+            );
+            b.row(
+                "level_by_slip without a mode on a file of 4 KiB, 41 items, 10,000 gains (Rust: as level, the stored flag; no slip, no gate)",
+                || rust_level(&file, &mut left, &mut right, None),
+                || library::level_by_slip(b"left=1\nright=1\n", &file, &mut l, &mut r, &mut out),
             );
         }
     }
