@@ -6,6 +6,8 @@ use lib.ListN.{length}
 use lib.Dec.{leb}
 use Rattle.lists.specs.Le.{readU32}
 use Rattle.replies.specs.Limits.{fileLimit}
+use Rattle.replies.specs.Refusal.{numberOf}
+use Rattle.replies.specs.declared.Refusal.the-variants.{FileTooLong}
 use Rattle.frame.specs.Tail.{tagStart}
 use Rattle.frame.specs.declared.TagStart.{TagStart}
 use Rattle.frame.specs.declared.TagStart.the-variants.{At, Nowhere}
@@ -33,4 +35,4 @@ answered Nowhere = record { reply = 0; there = 0; start = 0 }
 -- refusal 1 leaves the lent numbers
 abbrev pub startFace : List ℕ → ℕ → ℕ → ℕ → Start
 startFace s footer there start =
-    cond (leb (length s) fileLimit) (answered (tagStart s footer)) (record { reply = 1; there = there; start = start })
+    cond (leb (length s) fileLimit) (answered (tagStart s footer)) (record { reply = numberOf FileTooLong; there = there; start = start })

@@ -6,6 +6,8 @@ use mathlib.Core.List.{List}
 use lib.ListN.{length}
 use lib.Dec.{leb, eqb}
 use Rattle.lists.specs.Write.{over}
+use Rattle.replies.specs.Refusal.{numberOf}
+use Rattle.replies.specs.declared.Refusal.the-variants.{NoRoom}
 
 -- yes is 1
 abbrev pub flag : Bool → ℕ
@@ -20,7 +22,7 @@ pub record TextFace : Type 0 where
 
 -- where it does not fit, refusal 5 leaves all
 abbrev pub textFace : List ℕ → List ℕ → ℕ → TextFace
-textFace w out old = cond (leb (length w) (length out)) (record { reply = 0; written = length w; out = over w out }) (record { reply = 5; written = old; out = out })
+textFace w out old = cond (leb (length w) (length out)) (record { reply = 0; written = length w; out = over w out }) (record { reply = numberOf NoRoom; written = old; out = out })
 
 -- a value shifted: the reply, whether it has a new text, and that text written
 pub record ShiftFace : Type 0 where
