@@ -107,3 +107,9 @@ abbrev pub foundRepeated : Found → Bool
 foundRepeated (Value start n repeated) = repeated
 foundRepeated Nothing = false
 foundRepeated (Refused r) = false
+
+-- where the part that was found begins in the area; at the front where none was
+abbrev pub partStart : List ℕ → Found → ℕ
+partStart s (Value start n repeated) = cond (leb start (length s)) start 0
+partStart s Nothing = 0
+partStart s (Refused r) = 0

@@ -7,7 +7,7 @@ ghost use Rattle.lists.specs.Choice.{isSome};
 ghost use Rattle.replies.specs.declared.Refusal.the-variants.{BadKey};
 ghost use Rattle.keys.specs.Keys.{sameKey, isKey};
 ghost use Rattle.items.specs.Items.{typeOf, isBinary, asText, parse, itemsIn, countOf};
-ghost use Rattle.items.specs.Answers.{stepOf, locateFrom, endOf, placeBy, countBy, locateOf, findOf, valueOf, replyTo, isThere, foundRepeated};
+ghost use Rattle.items.specs.Answers.{stepOf, locateFrom, endOf, placeBy, countBy, locateOf, findOf, valueOf, replyTo, isThere, foundRepeated, partStart};
 ghost use Rattle.items.specs.declared.Found.the-variants.{Value, Refused};
 use replies::Refusal;
 
@@ -262,9 +262,9 @@ pub fn find(area: &[u8], count: usize, key: &[u8]) -> Found
     }
 }
 
-// The part of the area that was found, and an empty part where none was.
+// The very part of the area that was found, and an empty part at its front where none was.
 pub fn value<'a>(area: &'a [u8], f: Found) -> &'a [u8]
-    ensures { λ r. ⌜ now r ≡ valueOf (now (area .entry)) f ⌝ }
+    ensures { λ r. ⌜ (now r ≡ valueOf (now (area .entry)) f) × (r .ptr .0 ≡ area .entry .ptr .0) × (r .ptr .1 ≡ area .entry .ptr .1 + partStart (now (area .entry)) f) ⌝ }
 {
     let Found::Value {
         start,
@@ -340,7 +340,8 @@ pub fn get<'a>(
     repeated: &mut bool,
 ) -> &'a [u8]
     ensures { λ r. ⌜ (let found = findOf (now (area .entry)) count (now (key .entry)) in
-        (now r ≡ valueOf (now (area .entry)) found) × (now (status .exit) ≡ replyTo found) × (now (there .exit) ≡ isThere found)
+        (now r ≡ valueOf (now (area .entry)) found) × (r .ptr .0 ≡ area .entry .ptr .0) × (r .ptr .1 ≡ area .entry .ptr .1 + partStart (now (area .entry)) found)
+        × (now (status .exit) ≡ replyTo found) × (now (there .exit) ≡ isThere found)
         × (now (repeated .exit) ≡ foundRepeated found)) ⌝ }
 {
     let f = find(area, count, key);

@@ -22,7 +22,7 @@ returns c =
     let b = f .before .before in
     let s = b .before .args .area .now in
     let fits : SFits w32 (p .parse-undo-values .result .left) = search needs in
-    let e : p .parse-undo-values .result ≡ parseUndo (valueOf s (f .find .result)) = p .parse-undo-values .ensures ∙ ap parseUndo (v .value .ensures) in
+    let e : p .parse-undo-values .result ≡ parseUndo (valueOf s (f .find .result)) = p .parse-undo-values .ensures ∙ ap parseUndo (v .value .ensures .0) in
     ap Steps (toZ-ofZ fits)
     ∙ ap (λ u. Steps (u .left)) e
     ∙ from-value s (f .find .result) _ _ _ (k .enum-told .given .1)

@@ -61,7 +61,7 @@ fits c = flag (c .before) ∙ not-false (c .before .flag-fits .result) (c .if2 .
 numbers : (c : tie.After-accumulate-undo) → booked (asked (c .before .before .before .before .before .before .before .before .before)) (there (c .before .before .before .before .before .before .before .before .before)) ≡ c .accumulate-undo .result
 numbers c =
     let b = c .before .before .before .before .before .before .before .before .before in
-    numbers-found (b .args .area .now) (c .before .before .before .before .before .before .find .result) (asked b) (there b) (text (c .before .before .before .before .before .before)) (c .accumulate-undo .ensures ∙ rw (c .before .value .ensures))
+    numbers-found (b .args .area .now) (c .before .before .before .before .before .before .find .result) (asked b) (there b) (text (c .before .before .before .before .before .before)) (c .accumulate-undo .ensures ∙ rw (c .before .value .ensures .0))
 
 left-number : (c : tie.After-is-undo-number) → c .is-undo-number .result ≡ isUndoNumber (c .before .before .accumulate-undo .result .left)
 left-number c =

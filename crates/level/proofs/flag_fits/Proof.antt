@@ -14,10 +14,10 @@ there : (c : tie.After-enum-told) → isThere (c .before .before .before .args .
 there c = ap isThere (c .enum-told .given .1)
 
 returns-2 : tie.Need-returns-2
-returns-2 c = rw (there (c .before .before .before .before), c .enum-told2 .given .1, c .before .before .parse-undo-wrap .ensures, c .before .before .before .value .ensures)
+returns-2 c = rw (there (c .before .before .before .before), c .enum-told2 .given .1, c .before .before .parse-undo-wrap .ensures, c .before .before .before .value .ensures .0)
 
 returns-3 : tie.Need-returns-3
-returns-3 c = rw (there (c .before .before .before .before), c .enum-told3 .given .1, c .before .before .parse-undo-wrap .ensures, c .before .before .before .value .ensures)
+returns-3 c = rw (there (c .before .before .before .before), c .enum-told3 .given .1, c .before .before .parse-undo-wrap .ensures, c .before .before .before .value .ensures .0)
 
 pub flag-fits-spec : {M : Type 1} → statement M
 flag-fits-spec =

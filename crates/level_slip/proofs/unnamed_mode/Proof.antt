@@ -37,7 +37,7 @@ returns-2 c =
     let f = e .before .before in
     let g = f .before .before .before .args in
     c .from-wrap .ensures
-    ∙ ap modeOf (w .parse-undo-wrap .ensures ∙ ap undoWraps (v .value .ensures))
+    ∙ ap modeOf (w .parse-undo-wrap .ensures ∙ ap undoWraps (v .value .ensures .0))
     ∙ mode-there (g .area .now) (f .find .result) (itemsIn (g .count) (g .area .now)) (text f) (ap isThere (e .enum-told .given .1))
 
 pub unnamed-mode-spec : {M : Type 1} → statement M
