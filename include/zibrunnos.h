@@ -6,7 +6,7 @@
  *
  * Replies. A call that answers uint32_t gives 0 for done, or the number of a refusal (enum zib_refusal). A refused call changes nothing: no
  * output, no gain, no number. Bytes of an output past the reported length stay as they were. Where several refusals apply, the first of
- * this order is given: 13, 1, 12, 2, 3, 4, 7, 8, 10, 9, 11, 6, 5.
+ * this order is given: 13, 1, 12, 2, 3, 4, 7, 8, 14, 10, 9, 11, 6, 5.
  *
  * No call allocates, keeps anything between calls, or uses a global variable, so any number of threads may call at once, each with its own
  * outputs and gains. docs/LIBRARY.md has an example of each call, the stack that it takes, and the room that its output needs;

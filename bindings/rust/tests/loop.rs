@@ -328,8 +328,8 @@ fn peaks_are_told() {
     let one = set_item(&Loop::of(STEREO, 2, 1).bytes, b"REPLAYGAIN_TRACK_PEAK", b"0.5").unwrap();
     let two = set_item(&one, b"REPLAYGAIN_ALBUM_PEAK", b"0.5").unwrap();
     let notes = |file: &[u8]| changed(file, Call::Level(1, 1, N)).unwrap().1;
-    assert_eq!(notes(&one), ["the peak in its tag was not changed: it is still that from before"]);
-    assert_eq!(notes(&two), ["the 2 peaks in its tag were not changed: they are still those from before"]);
+    assert_eq!(notes(&one), ["1 peak in its tag was left as it was: it is still that from before"]);
+    assert_eq!(notes(&two), ["2 peaks in its tag were left as they were: they are still those from before"]);
 }
 
 #[test]

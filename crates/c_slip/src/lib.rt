@@ -101,5 +101,9 @@ pub extern "C" fn zib_level_by_slip(
         × (now (out .exit) ≡ over (levelBytes plan) (now (out .entry))) × (now (left .exit) ≡ leftAfter plan (now (left .entry)))
         × (now (right .exit) ≡ rightAfter plan (now (right .entry)))) ⌝ }
 {
-    c_level::put_answer(level_slip::level_by_slip(slip, file, left, right, out), written, peaks)
+    c_level::put_answer(
+        level_slip::level_by_slip(slip, file, left, right, out),
+        written,
+        peaks,
+    )
 }

@@ -57,7 +57,13 @@ pub fn resolve_mode(file: &[u8], mode: SlipMode) -> GainMode
 }
 
 // Level as a slip asks: refusals 13, 1, 2, 7, 8, 14, 9, 11, 6 and 5.
-pub fn level_by_slip(slip: &[u8], file: &[u8], left: &mut [u8], right: &mut [u8], out: &mut [u8]) -> LevelAnswer
+pub fn level_by_slip(
+    slip: &[u8],
+    file: &[u8],
+    left: &mut [u8],
+    right: &mut [u8],
+    out: &mut [u8],
+) -> LevelAnswer
     ensures { λ r. ⌜ (let plan = slipPlan (now (slip .entry)) (now (file .entry)) (now (left .entry)) (now (right .entry)) (length (now (out .entry))) in
         (r ≡ levelAnswer plan) × (now (out .exit) ≡ over (levelBytes plan) (now (out .entry)))
         × (now (left .exit) ≡ leftAfter plan (now (left .entry))) × (now (right .exit) ≡ rightAfter plan (now (right .entry)))) ⌝ }

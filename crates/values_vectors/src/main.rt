@@ -2,9 +2,9 @@
 // exact decibels, where it has f64, are a second reading of document 01.
 use decimal::Text;
 use frame::GainMode;
-use slip::SlipMode;
 use frame::GainSteps;
 use slip::Slip;
+use slip::SlipMode;
 use vectors::Replay;
 
 // Whether the word at this place is the hex of the first `len` bytes.

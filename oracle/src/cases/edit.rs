@@ -466,7 +466,9 @@ fn compare(c: &mut Compare) {
     }
     // A second undo item in each letter case, in each order, beside a key that only begins alike; then with the gate's refusal.
     for (first, second) in UNDO_NAMES.iter().flat_map(|a| UNDO_NAMES.iter().map(move |b| (a, b))) {
-        for (one, two) in [("+003,-002,W", "+001,+001,N"), ("", ""), ("junk", "+003,-002,W"), ("+003,-002,N", "+003,-002,N")] {
+        for (one, two) in
+            [("+003,-002,W", "+001,+001,N"), ("", ""), ("junk", "+003,-002,W"), ("+003,-002,N", "+003,-002,N")]
+        {
             let items = vec![item("AB", "c"), item(first, one), item("CD", "e"), item(second, two)];
             let mut file = reach::replace(b"audio", &tag_of(items));
             edits(c, &file, first.to_lowercase().as_bytes(), b"v");

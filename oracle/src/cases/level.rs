@@ -195,9 +195,8 @@ fn published_by_slip(slip: &[u8], file: &[u8], left: &[u8], right: &[u8]) -> Opt
 }
 
 fn by_slip(c: &mut Compare, slip: &[u8], file: &[u8], left: &[u8], right: &[u8]) {
-    let ours = |s: &[u8]| {
-        in_rooms(left, right, 2 * s.len() + 300, |l, r, out| library::level_by_slip(slip, s, l, r, out))
-    };
+    let ours =
+        |s: &[u8]| in_rooms(left, right, 2 * s.len() + 300, |l, r, out| library::level_by_slip(slip, s, l, r, out));
     let Some(answer) = published_by_slip(slip, file, left, right) else { return };
     if answer == ours(file) {
         c.inputs += 1;
