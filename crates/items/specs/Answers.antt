@@ -78,7 +78,7 @@ abbrev pub foundBy : Plan Place → Bool → Found
 foundBy (no r) repeated = Refused r
 foundBy (yes p) repeated = foundAt p repeated
 
--- refused for the area or the key, or where the value of the first match stands
+-- refused for the area or the key, or where the value of the first match stands and whether a later item matches
 unfoldable pub findOf : List ℕ → ℕ → List ℕ → Found
 findOf s n key =
     foundBy (planned (refusalOf (need MalformedArea (isSome (parse n s)) ∷ need BadKey (isKey key) ∷ [])) (locateOf s n key))
