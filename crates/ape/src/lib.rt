@@ -313,7 +313,8 @@ fn items_start(footer: usize, size: usize) -> usize
     footer - (size - 32)
 }
 
-// Reads the tag of a file into `area`: no tag, or how many items it has and how long their area is. Refusals 1 and 5.
+// Reads the tag of a file into `area`: no tag, or how many items it has and how long their area is. It takes no notice
+// of a key that comes twice. Refusals 1 and 5.
 pub fn read_ape_tag(file: &[u8], area: &mut [u8]) -> TagRead
     ensures { λ r. ⌜ (let plan = readPlan (now (file .entry)) (length (now (area .entry))) in
         (r ≡ readAnswer plan) × (now (area .exit) ≡ over (readBytes plan) (now (area .entry)))) ⌝ }

@@ -135,7 +135,7 @@ fn edit_without(area: &[u8], count: usize, what: Drop, key: &[u8], out: &mut [u8
     }
 }
 
-// The area without the items that have this key.
+// The area without the items that have this key, however many they are.
 pub fn remove(area: &[u8], count: usize, key: &[u8], out: &mut [u8]) -> Edited
     ensures { λ r. ⌜ (let plan = removePlan (now (key .entry)) count (now (area .entry)) (length (now (out .entry))) in
         (r ≡ answer plan) × (now (out .exit) ≡ over (bytes plan) (now (out .entry)))) ⌝ }

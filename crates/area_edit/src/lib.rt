@@ -163,7 +163,8 @@ pub fn write_set(
     }
 }
 
-// The area with this value at the first item with this key, which keeps its spelling and place, or with one more item.
+// The area with this value at the first item with this key, which keeps its spelling and place, or with one more item. Later items with the key
+// stay as they are.
 pub fn set(area: &[u8], count: usize, key: &[u8], value: &[u8], out: &mut [u8]) -> Edited
     ensures { λ r. ⌜ (let plan = setPlan (now (key .entry)) (now (value .entry)) count (now (area .entry)) (length (now (out .entry))) in
         (r ≡ answer plan) × (now (out .exit) ≡ over (bytes plan) (now (out .entry)))) ⌝ }

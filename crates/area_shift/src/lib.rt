@@ -166,7 +166,7 @@ fn smaller(a: usize, b: usize) -> usize
     b
 }
 
-// The area after so many steps: refusals 12, 2 and 5.
+// The area after so many steps, each item by itself, also where a key comes twice: refusals 12, 2 and 5.
 pub fn shift_stored_gain(
     area: &[u8],
     count: usize,

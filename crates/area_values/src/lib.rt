@@ -18,7 +18,7 @@ pub enum UndoGain {
     Refused(Refusal),
 }
 
-// The left number of the first undo item.
+// The left number of the first undo item, whether or not there is a second one.
 pub fn get_undo_gain(area: &[u8], count: usize) -> UndoGain
     ensures { λ r. ⌜ r ≡ undoGainOf (now (area .entry)) count ⌝ }
 {

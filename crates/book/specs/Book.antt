@@ -8,7 +8,8 @@ use Rattle.items.specs.Items.{Item}
 use Rattle.ape.specs.Tag.{split, fileOf, replaced}
 use Rattle.calls.specs.Gate.{passesGate, itemsOf}
 
--- the gate passes it, replacing its tag by its own items changes nothing, and the bytes before its tag do not end in a block that begins `APETAGEX`
+-- the gate passes it, replacing its tag by its own items changes nothing, and the bytes before its tag do not end in a block that begins `APETAGEX`;
+-- a key may come twice
 unfoldable pub settled : List ℕ → Bool
 settled file = passesGate file && (same (replaced file (itemsOf file)) file && not (standsAt 32 preamble ((split file) .front)))
 

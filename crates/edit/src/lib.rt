@@ -94,7 +94,8 @@ fn set_item(
     set_item_in(file, start, end, count, key, value, &mut new, out)
 }
 
-// The file with this value at the first item with this key, or with one more item: refusals 1, 3, 4, 8, 6 and 5.
+// The file with this value at the first item with this key, or with one more item; later items with the key stay as they are: refusals 1, 3, 4,
+// 8, 6 and 5.
 pub fn set_ape_item(file: &[u8], key: &[u8], value: &[u8], out: &mut [u8]) -> Written
     ensures { λ r. ⌜ (let plan = setPlan (now (file .entry)) (now (key .entry)) (now (value .entry)) (length (now (out .entry))) in
         (r ≡ writtenAnswer plan) × (now (out .exit) ≡ over (writtenBytes plan) (now (out .entry)))) ⌝ }
@@ -168,7 +169,7 @@ pub fn drop_items(
     drop_items_in(file, start, end, count, what, key, &mut new, out)
 }
 
-// The file without the items with this key: refusals 1, 3, 8, 6 and 5.
+// The file without the items with this key, however many they are: refusals 1, 3, 8, 6 and 5.
 pub fn remove_ape_item(file: &[u8], key: &[u8], out: &mut [u8]) -> Written
     ensures { λ r. ⌜ (let plan = removePlan (now (file .entry)) (now (key .entry)) (length (now (out .entry))) in
         (r ≡ writtenAnswer plan) × (now (out .exit) ≡ over (writtenBytes plan) (now (out .entry)))) ⌝ }

@@ -120,7 +120,7 @@ fn is_headed(file: &[u8], footer: usize, start: usize) -> bool
     frame::read_u32_le(file, start + 20) / APE_FLAG_IS_HEADER % 2 == 1
 }
 
-// Where the items of the file's tag stand, if the file is fit for editing.
+// Where the items of the file's tag stand, if the file is fit for editing. It takes no notice of a key that comes twice.
 pub fn gate(file: &[u8]) -> Editable
     ensures { λ r. ⌜ r ≡ gateOf (now (file .entry)) ⌝ }
 {

@@ -166,7 +166,8 @@ fn list_in(file: &[u8], area: &mut [u8], text: &mut [u8; 147473]) -> usize
     }
 }
 
-// Lists the tag of a file: `refused=1` for a file that is too long, `items=none` for no tag, else how many items were read and a line for each.
+// Lists the tag of a file: `refused=1` for a file that is too long, `items=none` for no tag, else how many items were read and a line for each,
+// also where a key comes twice.
 pub fn list_tag(file: &[u8], text: &mut [u8; 147473]) -> usize
     ensures { λ r. ⌜ (r ≡ length (L.listing (now (file .entry)))) × (now (text .exit) ≡ over (L.listing (now (file .entry))) (now (text .entry))) ⌝ }
 {
