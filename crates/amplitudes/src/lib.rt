@@ -1,4 +1,6 @@
 // Amplitudes for a mixer: 2 to the power of a quarter of the steps, as f64.
+#![tactic(auto)]
+
 ghost use Rattle.std.specs.Prelude.{◌≡◌, true, ◌*◌, ◌<◌};
 ghost use Rattle.std.specs.Float.{binary64};
 ghost use Rattle.std.specs.Float.Ieee.{mul, of_bits};
@@ -9,14 +11,14 @@ use frame::GainSteps;
 use replies::Refusal;
 
 // Two amplitudes, left and right.
-#[derive(Drop)]
+#[derive(Clone, Copy)]
 pub struct Amplitudes {
     pub left: f64,
     pub right: f64,
 }
 
 // The amplitudes of two step counts, or the refusal.
-#[derive(Drop)]
+#[derive(Clone, Copy)]
 pub enum Amplified {
     Done(Amplitudes),
     Refused(Refusal),

@@ -1,4 +1,6 @@
 // Replays recorded amplitudes, which the published Rust does not have: they are a second reading of request 14, over whole numbers.
+#![tactic(auto)]
+
 use amplitudes::Amplified;
 use frame::GainSteps;
 use vectors::Replay;

@@ -1,4 +1,6 @@
 // The tag of a file found and read: find_ape_footer and read_ape_tag.
+#![tactic(auto)]
+
 ghost use Rattle.std.specs.Prelude.{◌≡◌, true, ◌≤◌, ◌<◌, ◌+◌, min, ◌-◌, leb, length, drop};
 ghost use Rattle.lists.specs.Bytes.{starts_with};
 ghost use Rattle.lists.specs.Write.{over, splice};
@@ -17,14 +19,14 @@ use replies::Refusal;
 const APE_VERSION: u32 = 2000;
 
 // Where the footer of a file's tag stands.
-#[derive(Drop)]
+#[derive(Clone, Copy)]
 pub enum Footer {
     At(usize),
     Nowhere,
 }
 
 // What a search for the footer of a lent file answers.
-#[derive(Drop)]
+#[derive(Clone, Copy)]
 pub enum FooterFound {
     At(usize),
     Nowhere,
@@ -32,7 +34,7 @@ pub enum FooterFound {
 }
 
 // What reading a file's tag answers: the items' count and the length of the area written.
-#[derive(Drop)]
+#[derive(Clone, Copy)]
 pub enum TagRead {
     NoTag,
     Items { count: usize, length: usize },
@@ -40,14 +42,14 @@ pub enum TagRead {
 }
 
 // How many items are read, and how many bytes they have once their texts are converted; or more than there is room for.
-#[derive(Drop)]
+#[derive(Clone, Copy)]
 pub enum Measured {
     Items { count: usize, length: usize },
     NoRoom,
 }
 
 // How many items an area holds, and how many bytes it has.
-#[derive(Drop)]
+#[derive(Clone, Copy)]
 pub struct Area {
     pub count: usize,
     pub length: usize,

@@ -1,4 +1,6 @@
 // Where a file is cut, and the file with its tag replaced: split_ape_tag, ape_tag_parts and replace_ape_tag.
+#![tactic(auto)]
+
 ghost use Rattle.std.specs.Prelude.{◌≡◌, true, ◌≤◌, ◌+◌, ◌-◌, length};
 ghost use Rattle.lists.specs.Choice.{is_some};
 ghost use Rattle.lists.specs.Write.{over};
@@ -13,7 +15,7 @@ use frame::TagStart;
 use replies::Refusal;
 
 // Where a file is cut: what precedes its tag ends at `front`, and what follows it stands between `from` and `to`.
-#[derive(Drop)]
+#[derive(Clone, Copy)]
 pub struct Cut {
     pub front: usize,
     pub from: usize,

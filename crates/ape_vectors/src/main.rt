@@ -1,4 +1,6 @@
 // Replays the published Rust's recorded answers for crates ape, ape_write and ape_replace.
+#![tactic(auto)]
+
 use ape::{FooterFound, TagRead};
 use ape_replace::Cut;
 use ape_write::Written;

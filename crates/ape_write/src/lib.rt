@@ -1,4 +1,6 @@
 // A tag written: serialize_ape_tag.
+#![tactic(auto)]
+
 ghost use Rattle.std.specs.Prelude.{◌≡◌, true, ◌≤◌, ◌+◌, length};
 ghost use Rattle.lists.specs.Choice.{is_some};
 ghost use Rattle.lists.specs.Write.{over};
@@ -16,7 +18,7 @@ pub const HEADER_FLAGS: u32 = 0xA000_0000;
 pub const FOOTER_FLAGS: u32 = 0x8000_0000;
 
 // How many bytes were written, or why none was.
-#[derive(Drop)]
+#[derive(Clone, Copy)]
 pub enum Written {
     Done(usize),
     Refused(Refusal),

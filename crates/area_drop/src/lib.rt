@@ -1,4 +1,6 @@
 // Edits of a lent item area that drop items: those that stay are written to the front of a lent output.
+#![tactic(auto)]
+
 ghost use Rattle.std.specs.Prelude.{◌≡◌, true, ◌≤◌, length};
 ghost use Rattle.lists.specs.Choice.{is_some};
 ghost use Rattle.lists.specs.Write.{over};
@@ -12,7 +14,7 @@ use items::Stepped;
 use replies::Refusal;
 
 // Which items go: those with a key that is lent beside it, or those with some of the eight keys.
-#[derive(Drop)]
+#[derive(Clone, Copy)]
 pub enum Drop {
     Key,
     Undone,
@@ -21,7 +23,7 @@ pub enum Drop {
 }
 
 // How many items an edit makes, and how many bytes they have.
-#[derive(Drop)]
+#[derive(Clone, Copy)]
 pub enum Measured {
     Size { count: usize, length: usize },
     Malformed,

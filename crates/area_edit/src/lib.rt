@@ -1,4 +1,6 @@
 // What an edit of a lent item area answers, and set: the new area is written to the front of a lent output.
+#![tactic(auto)]
+
 ghost use Rattle.std.specs.Prelude.{◌≡◌, true, ◌≤◌, ◌<◌, ◌+◌, ◌-◌, length};
 ghost use Rattle.lists.specs.Choice.{is_some};
 ghost use Rattle.lists.specs.Write.{over, splice};
@@ -11,14 +13,14 @@ use items::Place;
 use replies::Refusal;
 
 // How many items an edit of a well-formed area makes, and how many bytes they have.
-#[derive(Drop)]
+#[derive(Clone, Copy)]
 pub struct Measure {
     pub count: usize,
     pub length: usize,
 }
 
 // What an edit wrote.
-#[derive(Drop)]
+#[derive(Clone, Copy)]
 pub enum Edited {
     Done { count: usize, length: usize },
     Refused(Refusal),

@@ -1,4 +1,6 @@
 // The values of mp3gain in an item area: the undo steps and the range of gains, got and set.
+#![tactic(auto)]
+
 ghost use Rattle.std.specs.Prelude.{◌≡◌, length};
 ghost use Rattle.lists.specs.Write.{over};
 ghost use Rattle.keys.specs.Keys.{undo_key, minmax_key};
@@ -12,7 +14,7 @@ use items::Found;
 use replies::Refusal;
 
 // The stored undo steps of the left side.
-#[derive(Drop)]
+#[derive(Clone, Copy)]
 pub enum UndoGain {
     Steps(i32),
     Nothing,

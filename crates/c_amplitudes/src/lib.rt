@@ -1,4 +1,6 @@
 // The face of crate amplitudes.
+#![tactic(auto)]
+
 ghost use Rattle.std.specs.Prelude.{◌≡◌};
 ghost use Rattle.amplitudes.specs.Amplitude.{amplitudes_plan};
 ghost use Rattle.c_amplitudes.specs.AmplitudesFace.{amplitudes_face};

@@ -1,4 +1,6 @@
 // The faces of crates ape, ape_write and ape_replace.
+#![tactic(auto)]
+
 ghost use Rattle.std.specs.Prelude.{◌≡◌, length};
 ghost use Rattle.lists.specs.Write.{over};
 ghost use Rattle.ape.specs.Answers.{footer_plan, footer_answer, read_plan, read_answer, read_bytes};

@@ -1,6 +1,8 @@
 // The faces of crates area_edit, area_drop, area_values and area_gains that edit an area.
 //
 // Each writes the new area to the front of `out`, how many items it has into `items`, and its length into `written`.
+#![tactic(auto)]
+
 ghost use Rattle.std.specs.Prelude.{◌≡◌, [], ◌∷◌, length};
 ghost use Rattle.lists.specs.Write.{over};
 ghost use Rattle.keys.specs.Keys.{undo_key, minmax_key, is_mp3gain_key, is_undone, is_replay_gain};

@@ -1,4 +1,6 @@
 // The faces of crates gate and edit: the editing gate, and set and remove on a file.
+#![tactic(auto)]
+
 ghost use Rattle.std.specs.Prelude.{◌≡◌, length};
 ghost use Rattle.lists.specs.Write.{over};
 ghost use Rattle.ape_write.specs.Answers.{written_answer, written_bytes};

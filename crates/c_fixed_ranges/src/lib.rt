@@ -1,4 +1,6 @@
 // The faces of crate fixed_ranges.
+#![tactic(auto)]
+
 ghost use Rattle.std.specs.Prelude.{◌≡◌};
 ghost use Rattle.fixed_ranges.specs.Fixed.{fixed, views};
 ghost use Rattle.c_fixed_ranges.specs.FixedFace.{fixed_face, views_number};

@@ -1,4 +1,6 @@
 // The faces of crate frame.
+#![tactic(auto)]
+
 ghost use Rattle.std.specs.Prelude.{◌≡◌};
 ghost use Rattle.frame.specs.Tail.{ends_with_id3v1};
 ghost use Rattle.frame.specs.Gain.{mode_of, adjust};

@@ -1,4 +1,6 @@
 // The faces of crates keys, items and area_values that read: a key looked at, an item of an area found, the undo number got.
+#![tactic(auto)]
+
 ghost use Rattle.std.specs.Prelude.{◌≡◌};
 ghost use Rattle.keys.specs.Keys.{is_key, which_key, which_is};
 ghost use Rattle.items.specs.Answers.{step_of, find_of};

@@ -1,4 +1,6 @@
 // The faces of crates lengths and level_lengths: how long the file would be that a call writes.
+#![tactic(auto)]
+
 ghost use Rattle.std.specs.Prelude.{◌≡◌};
 ghost use Rattle.frame.specs.Gain.{mode_of};
 ghost use Rattle.calls.specs.Calls.{Level};

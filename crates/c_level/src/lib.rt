@@ -1,4 +1,6 @@
 // The faces of crates level, undo and area_shift: level and undo on a file and its gains, and the shift of an area.
+#![tactic(auto)]
+
 ghost use Rattle.std.specs.Prelude.{◌≡◌, length};
 ghost use Rattle.lists.specs.Write.{over};
 ghost use Rattle.frame.specs.Gain.{mode_of};

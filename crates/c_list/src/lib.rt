@@ -1,4 +1,6 @@
 // The face of crate listing.
+#![tactic(auto)]
+
 ghost use Rattle.std.specs.Prelude.{◌≡◌, length};
 ghost use Rattle.lists.specs.Write.{over};
 ghost use Rattle.listing.specs.Listing.{listing};

@@ -1,4 +1,6 @@
 // The faces of crates slip and level_slip: a slip read, its mode resolved for a file, and level by a slip.
+#![tactic(auto)]
+
 ghost use Rattle.std.specs.Prelude.{◌≡◌, length};
 ghost use Rattle.lists.specs.Write.{over};
 ghost use Rattle.slip.specs.Slip.{read_slip};

@@ -1,4 +1,6 @@
 // The faces of the calls on the gains in the sound of an MP3.
+#![tactic(auto)]
+
 ghost use Rattle.std.specs.Prelude.{◌≡◌, ◌≤◌, length};
 ghost use Rattle.std.proofs.Math.Option.{some};
 ghost use Rattle.lists.specs.Write.{over};

@@ -1,4 +1,6 @@
 // The faces of crate tail_read: the two stages.
+#![tactic(auto)]
+
 ghost use Rattle.std.specs.Prelude.{◌≡◌, length};
 ghost use Rattle.lists.specs.Write.{over};
 ghost use Rattle.ape.specs.Answers.{read_answer, read_bytes};

@@ -1,4 +1,6 @@
 // The faces of crate tail_write.
+#![tactic(auto)]
+
 ghost use Rattle.std.specs.Prelude.{◌≡◌};
 ghost use Rattle.tail_write.specs.Answers.{rewrite_plan, rewrite_answer, rewrite_buffer, whole_answer, whole_buffer};
 ghost use Rattle.c_tail_write.specs.TailWriteFace.{rewritten_face};

@@ -1,4 +1,6 @@
 // The face of crate tally.
+#![tactic(auto)]
+
 ghost use Rattle.std.specs.Prelude.{◌≡◌};
 ghost use Rattle.frame.specs.Gain.{mode_of};
 ghost use Rattle.tally.specs.Tally.{tally_of, saturated_of};

@@ -1,4 +1,6 @@
 // The faces of crates utf8 and lossy.
+#![tactic(auto)]
+
 ghost use Rattle.std.specs.Prelude.{◌≡◌, min, length};
 ghost use Rattle.lists.specs.Write.{over};
 ghost use Rattle.utf8.specs.Utf8.{valid};

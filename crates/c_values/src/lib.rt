@@ -1,4 +1,6 @@
 // The faces of crate values, and of the steps of crate decibels.
+#![tactic(auto)]
+
 ghost use Rattle.std.specs.Prelude.{◌≡◌, ◌≤◌, length, take};
 ghost use Rattle.values.specs.Undo.{parse_undo, undo_wraps, format_undo, accumulated};
 ghost use Rattle.values.specs.Range.{format_range};

@@ -1,4 +1,6 @@
 // The tests of level and undo that come before the new file is measured: what is lent, the gate, and the stored undo item.
+#![tactic(auto)]
+
 ghost use Rattle.std.specs.Prelude.{◌≡◌, true, cond};
 ghost use Rattle.lists.specs.Choice.{is_some};
 ghost use Rattle.items.specs.Items.{parse, items_in};
@@ -15,14 +17,14 @@ use replies::Refusal;
 use values::UndoValues;
 
 // The undo numbers that level stores.
-#[derive(Drop)]
+#[derive(Clone, Copy)]
 pub enum NextUndo {
     Numbers(UndoValues),
     Refused(Refusal),
 }
 
 // Where the items of the file stand, and the undo numbers that level stores.
-#[derive(Drop)]
+#[derive(Clone, Copy)]
 pub enum LevelCheck {
     Ready {
         start: usize,
@@ -34,7 +36,7 @@ pub enum LevelCheck {
 }
 
 // Where the items of the file stand, and what its undo item says.
-#[derive(Drop)]
+#[derive(Clone, Copy)]
 pub enum UndoCheck {
     Ready {
         start: usize,
@@ -142,7 +144,7 @@ pub fn check_level(
 }
 
 // What the undo item of an area says, or that there is none, or a second one.
-#[derive(Drop)]
+#[derive(Clone, Copy)]
 pub enum StoredUndo {
     Steps { left: i32, right: i32, wrap: bool },
     Nothing,

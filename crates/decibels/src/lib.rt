@@ -1,4 +1,6 @@
 // Gain texts and decibels. Every amount is exact until it is rounded to a millionth.
+#![tactic(auto)]
+
 ghost use Rattle.std.specs.Prelude.{◌≡◌, ◌+◌, ◌*◌, ◌<◌, ◌-ℤ◌};
 ghost use Rattle.number.specs.Reading.{with_sign, natural_of};
 ghost use Rattle.decimal.specs.Writing.{text_of, shifted_is};
@@ -9,17 +11,17 @@ use frame::GainSteps;
 use number::Natural;
 
 // An amount of decibels: whether it is below zero, whole millionths, and the rest in units of 10^-15 dB.
-#[derive(Drop)]
+#[derive(Clone, Copy)]
 pub struct Millionths(pub bool, pub u64, pub u64);
 
-#[derive(Drop)]
+#[derive(Clone, Copy)]
 enum Count {
     Value(u64),
     Nothing,
 }
 
 // The amount of a gain text, or that it has none.
-#[derive(Drop)]
+#[derive(Clone, Copy)]
 pub enum GainField {
     Value(Millionths),
     Nothing,

@@ -1,18 +1,20 @@
 // Whole numbers written, and the texts that hold them. Nothing here knows a tag.
+#![tactic(auto)]
+
 ghost use Rattle.std.specs.Prelude.{◌≡◌, ◌+◌, ◌-◌, ◌≤◌, ◌^◌, length};
 ghost use Rattle.std.proofs.Math.Option.{none};
 ghost use Rattle.lists.specs.Write.{splice};
 ghost use Rattle.decimal.specs.Writing as W;
 
 // A text that was written: its bytes, zeros behind them, and how many there are.
-#[derive(Drop)]
+#[derive(Clone, Copy)]
 pub struct Text {
     pub bytes: [u8; 32],
     pub len: usize,
 }
 
 // A text after a change: its new bytes, or that it stays as found.
-#[derive(Drop)]
+#[derive(Clone, Copy)]
 pub struct Shifted {
     pub moved: bool,
     pub text: Text,

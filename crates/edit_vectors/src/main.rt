@@ -1,4 +1,6 @@
 // Replays the recorded answers for crates edit, level, level_slip, undo and area_shift.
+#![tactic(auto)]
+
 use ape_write::Written;
 use area_edit::Edited;
 use frame::{GainMode, GainSteps};

@@ -1,4 +1,6 @@
 // Ranges read at fixed places, as an older tool does, beside the fields that we parse.
+#![tactic(auto)]
+
 ghost use Rattle.std.specs.Prelude.{◌≡◌, ◌≤◌, length, take};
 ghost use Rattle.std.proofs.Math.Option.{some};
 ghost use Rattle.number.specs.Reading.{natural_of};
@@ -8,21 +10,21 @@ use number::Natural;
 use values::{Range, RangeField};
 
 // The two numbers that stand at fixed places.
-#[derive(Drop)]
+#[derive(Clone, Copy)]
 pub struct FixedRange {
     pub first: u32,
     pub second: u32,
 }
 
 // The numbers at fixed places, or that one of them is not there.
-#[derive(Drop)]
+#[derive(Clone, Copy)]
 pub enum FixedField {
     Value(FixedRange),
     Nothing,
 }
 
 // What the two views of a text say of each other.
-#[derive(Drop)]
+#[derive(Clone, Copy)]
 pub enum Views {
     Agree,
     Differ,

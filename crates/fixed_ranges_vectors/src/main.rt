@@ -1,4 +1,6 @@
 // Replays recorded answers for crate fixed_ranges: the published Rust's reading of a range, and a second reading of request 10.
+#![tactic(auto)]
+
 use fixed_ranges::{FixedField, Views};
 use vectors::Replay;
 

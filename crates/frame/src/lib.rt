@@ -1,4 +1,6 @@
 // The tail and gain arithmetic of frame.rs: numbers of four bytes, ID3v1 blocks, where a tag starts and the sound ends, and how a gain moves.
+#![tactic(auto)]
+
 ghost use Rattle.std.specs.Prelude.{◌≡◌, ◌≤◌, ◌<◌, ◌+◌, min, length};
 ghost use Rattle.lists.specs.Le.{read_u32};
 ghost use Rattle.integers.specs.Apart.{whole_of};
@@ -14,21 +16,21 @@ pub const APE_PREAMBLE: [u8; 8] = *b"APETAGEX";
 pub const APE_FLAG_HEADER_PRESENT: u32 = 0x8000_0000;
 
 // Where a tag starts, its header included.
-#[derive(Drop)]
+#[derive(Clone, Copy)]
 pub enum TagStart {
     At(usize),
     Nowhere,
 }
 
 // How a gain meets the ends of 0..255.
-#[derive(Drop)]
+#[derive(Clone, Copy)]
 pub enum GainMode {
     Saturating,
     Wrapping,
 }
 
 // A number of gain steps.
-#[derive(Drop)]
+#[derive(Clone, Copy)]
 pub struct GainSteps(pub i32);
 
 impl GainMode {

@@ -1,4 +1,6 @@
 // Replays the published Rust's recorded answers for crates frame and tally.
+#![tactic(auto)]
+
 use frame::{GainMode, GainSteps, TagStart};
 use vectors::Replay;
 

@@ -1,4 +1,6 @@
 // Lists of gains: every gain moved, and the range that they will have.
+#![tactic(auto)]
+
 ghost use Rattle.std.specs.Prelude.{◌≡◌, ◌++◌, min, max};
 ghost use Rattle.calls.specs.Calls.{adjusted, least, greatest, range_of};
 

@@ -1,4 +1,6 @@
 // The editing gate: whether a file is fit for editing, and where the items of its tag stand.
+#![tactic(auto)]
+
 ghost use Rattle.std.specs.Prelude.{◌≡◌, true, ◌≤◌, ◌+◌, length};
 ghost use Rattle.lists.specs.Choice.{provided, is_some};
 ghost use Rattle.frame.specs.Tail.{tag_start};
@@ -15,7 +17,7 @@ use items::Stepped;
 const APE_FLAG_IS_HEADER: u32 = 0x2000_0000;
 
 // Where the items of a file stand that is fit for editing: an empty part where it has no tag.
-#[derive(Drop)]
+#[derive(Clone, Copy)]
 pub enum Editable {
     Items {
         start: usize,

@@ -1,9 +1,11 @@
 // A signed number taken apart into its sign and its size, and put together again: the one place where code looks at a sign.
+#![tactic(auto)]
+
 ghost use Rattle.std.specs.Prelude.{◌≡◌, ◌<◌};
 ghost use Rattle.integers.specs.Apart.{apart_of, whole_of};
 
 // A number by its sign: up by `by`, or down by one more than `by`. So every i32 has one such form.
-#[derive(Drop)]
+#[derive(Clone, Copy)]
 pub struct Apart {
     pub down: bool,
     pub by: u32,

@@ -1,4 +1,6 @@
 // The item area: exactly `count` items, one after another. It stands for the source's `ApeTag`.
+#![tactic(auto)]
+
 ghost use Rattle.std.specs.Prelude.{◌≡◌, cond, ◌≤◌, ◌<◌, ◌+◌, ◌-◌, length, drop};
 ghost use Rattle.lists.specs.Choice.{is_some};
 ghost use Rattle.replies.specs.declared.Refusal.TheVariants.{BadKey};
@@ -10,7 +12,7 @@ ghost use Rattle.items.specs.declared.Found.TheVariants.{Value, Refused};
 use replies::Refusal;
 
 // What stands at a place of an area.
-#[derive(Drop)]
+#[derive(Clone, Copy)]
 pub enum Stepped {
     Item {
         flags: u32,
@@ -24,7 +26,7 @@ pub enum Stepped {
 }
 
 // Where the first item with a key stands: its start, the end of its key, its end.
-#[derive(Drop)]
+#[derive(Clone, Copy)]
 pub enum Place {
     At {
         start: usize,
@@ -36,7 +38,7 @@ pub enum Place {
 }
 
 // The first match: its start, the end of its key, its end, and how many items are left behind it.
-#[derive(Drop)]
+#[derive(Clone, Copy)]
 enum FirstMatch {
     At {
         start: usize,
@@ -49,7 +51,7 @@ enum FirstMatch {
 }
 
 // Where a value stands, how long it is, and whether a later item has the key too.
-#[derive(Drop)]
+#[derive(Clone, Copy)]
 pub enum Found {
     Value {
         start: usize,

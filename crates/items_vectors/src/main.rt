@@ -1,6 +1,8 @@
 // Replays the published Rust's recorded answers for crates keys, items, area_edit, area_values and area_gains.
 //
 // A line is the call, the count of items, their area, what else the call takes, the reply, and, where that is 0, the answer.
+#![tactic(auto)]
+
 use area_edit::Edited;
 use area_values::UndoGain;
 use keys::Which;

@@ -1,4 +1,6 @@
 // Keys of items: compared without regard to the case of ASCII letters, the eight keys of mp3gain, and the rule for a key.
+#![tactic(auto)]
+
 ghost use Rattle.std.specs.Prelude.{◌≡◌, ◌≤◌, ◌<◌, ◌+◌, eqb, length, take, drop};
 ghost use Rattle.lists.specs.Bytes.{all};
 ghost use Rattle.lists.specs.Write.{splice};
@@ -24,7 +26,7 @@ pub const TAG_REPLAYGAIN_ALBUM_PEAK: [u8; 21] = *b"REPLAYGAIN_ALBUM_PEAK";
 pub const TAG_REPLAYGAIN_ALGORITHM: [u8; 20] = *b"REPLAYGAIN_ALGORITHM";
 
 // A fixed key: its length and its text, with zeros behind it.
-#[derive(Drop)]
+#[derive(Clone, Copy)]
 pub struct Name {
     pub len: usize,
     pub text: [u8; 21],
@@ -67,7 +69,7 @@ const MP3GAIN_VALUE_KEYS: [Name; 8] = [
 ];
 
 // Which of the eight keys a key is: its place in MP3GAIN_VALUE_KEYS.
-#[derive(Drop)]
+#[derive(Clone, Copy)]
 pub enum Which {
     Key(usize),
     Other,

@@ -1,4 +1,6 @@
 // Layer III frames: their headers, and the bits of their gain fields.
+#![tactic(auto)]
+
 ghost use Rattle.std.specs.Prelude.{◌≡◌, false, cond, ◌&&◌, ◌≤◌, ◌<◌, ◌+◌, ◌*◌, ◌/◌, ◌%◌, length, get_or};
 ghost use Rattle.layer3.specs.declared.Header.TheVariants.{Invalid};
 ghost use Rattle.layer3.specs.Header.{has_rate, has_sampling, unpadded_size, header_of};
@@ -9,7 +11,7 @@ ghost use Rattle.layer3.specs.Walk.{id3_size, id3_footer, walk_start, frame_at, 
 
 // What a valid header says of its frame: how many bytes it has, whether it is of ISO/IEC 11172-3 (MPEG-1, two granules) or of 13818-3 (MPEG-2, one),
 // whether it has one channel, and whether a checksum follows the header.
-#[derive(Drop)]
+#[derive(Clone, Copy)]
 pub struct Frame {
     pub size: usize,
     pub mpeg1: bool,
@@ -18,7 +20,7 @@ pub struct Frame {
 }
 
 // A valid header, or none.
-#[derive(Drop)]
+#[derive(Clone, Copy)]
 pub enum Header {
     Valid(Frame),
     Invalid,

@@ -1,4 +1,6 @@
 // How long the file would be that set, remove or undo writes. Nothing is written.
+#![tactic(auto)]
+
 ghost use Rattle.std.specs.Prelude.{◌≡◌, true, ◌≤◌, length};
 ghost use Rattle.keys.specs.Keys.{is_key};
 ghost use Rattle.items.specs.Items.{area_bytes, set_item, without};
@@ -14,7 +16,7 @@ use gate::Editable;
 use replies::Refusal;
 
 // How long the new file would be, or why there would be none.
-#[derive(Drop)]
+#[derive(Clone, Copy)]
 pub enum NewLength {
     Bytes(usize),
     Refused(Refusal),

@@ -1,4 +1,6 @@
 // Replays recorded lengths of new files, which the published Rust does not have: each is that of the file which the recorded call gives.
+#![tactic(auto)]
+
 use frame::{GainMode, GainSteps};
 use lengths::NewLength;
 use vectors::Replay;

@@ -1,4 +1,6 @@
 // Level: every gain moved, and the file with the items that say so.
+#![tactic(auto)]
+
 ghost use Rattle.std.specs.Prelude.{◌≡◌, true, ◌≤◌, ◌+◌, ◌-◌, ◌*◌, length};
 ghost use Rattle.lists.specs.Choice.{is_some};
 ghost use Rattle.lists.specs.Write.{over};
@@ -21,7 +23,7 @@ use values::{Range, UndoValues};
 const SCRATCH: usize = replies::AREA_LIMIT + 32 * replies::COUNT_LIMIT + 76;
 
 // How long the new file is, and how many peak items of its tag were left as found.
-#[derive(Drop)]
+#[derive(Clone, Copy)]
 pub enum LevelAnswer {
     Done { length: usize, peaks: usize },
     Refused(Refusal),

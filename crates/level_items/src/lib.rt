@@ -1,4 +1,6 @@
 // The items that level leaves in a tag: stored values moved or dropped, then the undo item and the range of all gains set.
+#![tactic(auto)]
+
 ghost use Rattle.std.specs.Prelude.{◌≡◌, true, ◌≤◌, ◌+◌, ◌*◌, length};
 ghost use Rattle.lists.specs.Choice.{is_some};
 ghost use Rattle.lists.specs.Write.{over};

@@ -1,4 +1,6 @@
 // How long the file would be that level writes, by two steps and a mode or by a slip. Nothing is written.
+#![tactic(auto)]
+
 ghost use Rattle.std.specs.Prelude.{◌≡◌, ◌≤◌, ◌+◌, ◌-◌, ◌*◌, length};
 ghost use Rattle.items.specs.Items.{area_bytes};
 ghost use Rattle.calls.specs.Gate.{items_of};

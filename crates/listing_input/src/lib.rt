@@ -1,4 +1,6 @@
 // The listing program: each program that lists is one call of `list_input`.
+#![tactic(auto)]
+
 use libc::{STDIN_FILENO, STDOUT_FILENO};
 
 // Reads more of the input and drops it; false at its end.

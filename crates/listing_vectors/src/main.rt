@@ -1,4 +1,6 @@
 // Replays recorded listings, each a line of a file and its text.
+#![tactic(auto)]
+
 use vectors::Replay;
 
 // Whether the file of the line at this place lists as its text.

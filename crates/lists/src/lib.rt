@@ -1,4 +1,6 @@
 // Bytes compared, searched and copied. Nothing here knows a format.
+#![tactic(auto)]
+
 ghost use Rattle.std.specs.Prelude.{◌≡◌, ◌≤◌, ◌+◌, ◌-◌, length, drop};
 ghost use Rattle.lists.specs.Bytes.{same, starts_with, place_of};
 ghost use Rattle.lists.specs.Write.{splice, part};

@@ -1,4 +1,6 @@
 // A text with U+FFFD in place of each ill-formed part: its size, and the text written.
+#![tactic(auto)]
+
 ghost use Rattle.std.specs.Prelude.{◌≡◌, ◌≤◌, ◌+◌, length};
 ghost use Rattle.lists.specs.Write.{over, splice};
 ghost use Rattle.utf8.specs.Utf8.{Classes};
@@ -6,7 +8,7 @@ ghost use Rattle.lossy.specs.Lossy.{lossy};
 ghost use Rattle.lossy.specs.Write.{answer, bytes, within};
 
 // How many bytes there are, or that there is no room for them.
-#[derive(Drop)]
+#[derive(Clone, Copy)]
 pub enum Converted {
     Done(usize),
     NoRoom,

@@ -1,4 +1,6 @@
 // Whole numbers read from texts. Nothing here knows a tag.
+#![tactic(auto)]
+
 ghost use Rattle.std.specs.Prelude.{◌≡◌, ◌-◌, ◌≤◌, ◌<◌, length, take, drop, leb, nat_abs};
 ghost use Rattle.integers.specs.Apart.{whole_of};
 ghost use Rattle.lists.specs.Choice.{provided};
@@ -9,21 +11,21 @@ ghost use Rattle.number.specs.Reading as R;
 use integers::Apart;
 
 // Digits that were read.
-#[derive(Drop)]
+#[derive(Clone, Copy)]
 pub enum Natural {
     Value(u32),
     Nothing,
 }
 
 // A field that should be a number of 32 bits with a sign.
-#[derive(Drop)]
+#[derive(Clone, Copy)]
 pub enum I32Field {
     Value(i32),
     Nothing,
 }
 
 // A field that should be a byte's number.
-#[derive(Drop)]
+#[derive(Clone, Copy)]
 pub enum U8Field {
     Value(u8),
     Nothing,

@@ -1,4 +1,6 @@
 // Peak texts, moved with the gains. Every comparison is exact.
+#![tactic(auto)]
+
 ghost use Rattle.std.specs.Prelude.{◌≡◌, true, ◌*◌, ◌^◌, ◌<◌, ◌≤◌, leb};
 ghost use Rattle.number.specs.Reading.{natural_of};
 ghost use Rattle.decimal.specs.Writing.{text_of, shifted_is};
@@ -10,7 +12,7 @@ use frame::GainSteps;
 use number::Natural;
 
 // A number in two halves of 58 binary digits, of which the high one may have some more. 536870912 is 2^29, and 288230376151711744 is 2^58.
-#[derive(Drop)]
+#[derive(Clone, Copy)]
 struct Wide {
     high: u64,
     low: u64,

@@ -1,11 +1,13 @@
 // A reader of an item area: a struct that holds the area and a place in it, and thin functions over it. The work is in `items::step`.
+#![tactic(auto)]
+
 ghost use Rattle.std.specs.Prelude.{◌≡◌};
 ghost use Rattle.items.specs.Answers.{step_of};
 
 use items::Stepped;
 
 // Where an area is read next.
-#[derive(Drop)]
+#[derive(Clone, Copy)]
 pub struct Reader<'a> {
     pub area: &'a [u8],
     pub at: usize,

@@ -1,4 +1,6 @@
 // The numbers by which a call refuses, and the limits that they stand for.
+#![tactic(auto)]
+
 ghost use Rattle.std.specs.Prelude.{◌≡◌};
 ghost use Rattle.replies.specs.Refusal.{number_of};
 
@@ -14,7 +16,7 @@ pub const COUNT_LIMIT: usize = 41;
 pub const AREA_LIMIT: usize = 32_768;
 
 // Why a call changed nothing, in the order of document 01's table of replies: the first is its number 1.
-#[derive(Drop)]
+#[derive(Clone, Copy)]
 pub enum Refusal {
     FileTooLong,
     StepOutOfRange,

@@ -1,5 +1,7 @@
 // The conversion of crate lossy one part of the text after another: the definition as a program. Each function has the contract of the one
 // of its name in lossy, which reads blocks, and `both_same` says that the two are the same on every input.
+#![tactic(auto)]
+
 ghost use Rattle.std.specs.Prelude.{◌≡◌, true, ◌≤◌, ◌+◌, length};
 ghost use Rattle.lists.specs.Bytes.{same};
 ghost use Rattle.lists.specs.Write.{over, splice};

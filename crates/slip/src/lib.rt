@@ -1,4 +1,6 @@
 // The level slip: `left=`, `right=` and perhaps `mode=`, a line each.
+#![tactic(auto)]
+
 ghost use Rattle.std.specs.Prelude.{◌≡◌};
 ghost use Rattle.number.specs.Reading.{i32_of};
 ghost use Rattle.slip.specs.Slip as S;
@@ -8,14 +10,14 @@ use number::I32Field;
 use replies::Refusal;
 
 // The mode that a slip names, or that it names none: who knows the file resolves it then.
-#[derive(Drop)]
+#[derive(Clone, Copy)]
 pub enum SlipMode {
     Named(GainMode),
     Unnamed,
 }
 
 // What a slip of good form asks for: steps for either side, and how they meet the ends.
-#[derive(Drop)]
+#[derive(Clone, Copy)]
 pub struct Wish {
     pub left: GainSteps,
     pub right: GainSteps,
@@ -23,20 +25,20 @@ pub struct Wish {
 }
 
 // What a slip asks for, or the refusal.
-#[derive(Drop)]
+#[derive(Clone, Copy)]
 pub enum Slip {
     Steps(Wish),
     Refused(Refusal),
 }
 
-#[derive(Drop)]
+#[derive(Clone, Copy)]
 enum ModeLine {
     Mode(SlipMode),
     Nothing,
 }
 
 // A slip by its form alone.
-#[derive(Drop)]
+#[derive(Clone, Copy)]
 pub enum Form {
     Good(Wish),
     Malformed,

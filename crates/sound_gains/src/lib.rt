@@ -1,4 +1,6 @@
 // The gains in the sound of audio, without a list of them: what a scan of them finds, and all of them moved.
+#![tactic(auto)]
+
 ghost use Rattle.std.specs.Prelude.{◌≡◌, ◌||◌, ◌++◌, ◌≤◌, ◌<◌, ◌+◌, ◌*◌, ◌/◌, min, max, length};
 ghost use Rattle.frame.specs.Gain.{adjust};
 ghost use Rattle.layer3.specs.Sizes.{SizeTable, LongFrame};
@@ -119,7 +121,7 @@ pub fn move_gains(
 }
 
 // What a scan finds: whether there is a frame, whether one has a checksum, and the range that the gains will have.
-#[derive(Drop)]
+#[derive(Clone, Copy)]
 pub struct Scan {
     pub frames: bool,
     pub checksum: bool,
@@ -127,7 +129,7 @@ pub struct Scan {
 }
 
 // A scan under way: where it has come to, and what it has found.
-#[derive(Drop)]
+#[derive(Clone, Copy)]
 pub struct Progress {
     pub at: usize,
     pub frames: bool,

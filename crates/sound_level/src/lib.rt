@@ -1,4 +1,6 @@
 // Level and undo on the gains in the sound of an MP3.
+#![tactic(auto)]
+
 ghost use Rattle.std.specs.Prelude.{◌≡◌, true, ◌≤◌, length, take};
 ghost use Rattle.lists.specs.Write.{over};
 ghost use Rattle.ape_write.specs.Answers.{written_bytes};

@@ -1,4 +1,6 @@
 // The gains in the sound of audio, read into two lists and written from two lists.
+#![tactic(auto)]
+
 ghost use Rattle.std.specs.Prelude.{◌≡◌, List, ◌++◌, ◌≤◌, ◌<◌, ◌+◌, ◌*◌, ◌/◌, length, take, drop, set};
 ghost use Rattle.lists.specs.Write.{over};
 ghost use Rattle.layer3.specs.Sizes.{SizeTable, LongFrame};
@@ -10,7 +12,7 @@ ghost use Rattle.sound_lists.specs.Lists.{put_first, behind, filled, lefts_from,
 use layer3::{Frame, Header};
 
 // Where a walk has come to, in the audio and in the list of each side.
-#[derive(Drop)]
+#[derive(Clone, Copy)]
 pub struct Places {
     pub at: usize,
     pub left: usize,
@@ -140,7 +142,7 @@ pub fn write_gains(audio: &[u8], left: &[u8], right: &[u8], out: &mut [u8])
 }
 
 // How many gains there are on each side.
-#[derive(Drop)]
+#[derive(Clone, Copy)]
 pub struct Counts {
     pub left: usize,
     pub right: usize,

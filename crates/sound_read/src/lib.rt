@@ -1,4 +1,6 @@
 // The gains in the sound of an MP3, read into two lists: read_gains.
+#![tactic(auto)]
+
 ghost use Rattle.std.specs.Prelude.{◌≡◌, ◌≤◌, length};
 ghost use Rattle.sound_calls.specs.Sound.{read_gains_plan};
 ghost use Rattle.sound_read.specs.Answers.{read_answer, left_read, right_read};
@@ -8,7 +10,7 @@ use replies::Refusal;
 use sound_lists::Counts;
 
 // How many gains there are on either side, or the refusal.
-#[derive(Drop)]
+#[derive(Clone, Copy)]
 pub enum GainsRead {
     Done(Counts),
     Refused(Refusal),

@@ -1,4 +1,6 @@
 // Replays the recorded answers of a second reading of request 5 for crate sound_read.
+#![tactic(auto)]
+
 use sound_read::GainsRead;
 use vectors::Replay;
 use words::is_hex;

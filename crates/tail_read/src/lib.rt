@@ -1,4 +1,6 @@
 // Only the end of a file read: how many bytes of it reading needs, and those bytes read. After read_ape_tag_from_file.
+#![tactic(auto)]
+
 ghost use Rattle.std.specs.Prelude.{◌≡◌, min, max, length};
 ghost use Rattle.lists.specs.Write.{over};
 ghost use Rattle.ape.specs.Answers.{read_plan, read_answer, read_bytes};
@@ -12,7 +14,7 @@ use replies::Refusal;
 const PROBE: usize = 160;
 
 // How many final bytes of a file the second stage takes, or why there is none.
-#[derive(Drop)]
+#[derive(Clone, Copy)]
 pub enum Needs {
     Bytes(usize),
     Refused(Refusal),

@@ -1,4 +1,6 @@
 // The end of a file rewritten where it is: rewrite_ape_tail. Bytes are written from the audio end on, in rising order, and the length is set last.
+#![tactic(auto)]
+
 ghost use Rattle.std.specs.Prelude.{◌≡◌, true, not, ◌&&◌, cond, ◌++◌, ◌≤◌, ◌+◌, ◌-◌, max, length, take, ltb, eqb};
 ghost use Rattle.lists.specs.Choice.{is_some};
 ghost use Rattle.lists.specs.Write.{over, splice, part};
@@ -13,7 +15,7 @@ use frame::TagStart;
 use replies::Refusal;
 
 // Where a file is rewritten: from `end` on, and what follows the new tag stands between `from` and `to`.
-#[derive(Drop)]
+#[derive(Clone, Copy)]
 struct Place {
     tagged: bool,
     end: usize,
@@ -23,7 +25,7 @@ struct Place {
 
 // What is found after so many writes: all were made, and the length is set; or they came to their end before that, and the file has this length; or the
 // call was refused, and none was made. `end` is the first place that is written, or the file's length where nothing is.
-#[derive(Drop)]
+#[derive(Clone, Copy)]
 pub enum Rewritten {
     Done { end: usize, length: usize },
     Stopped { end: usize, length: usize },

@@ -1,4 +1,6 @@
 // Replays recorded answers for crates tail_read and tail_write: the published Rust's of reading, and a second reading of requests 1 and 9 of the rest.
+#![tactic(auto)]
+
 use ape::TagRead;
 use tail_read::Needs;
 use tail_write::Rewritten;

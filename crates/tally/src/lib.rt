@@ -1,4 +1,6 @@
 // How many gains of a list a level holds at 0 or 255 or moves where no undo brings them back, and the range that it leaves.
+#![tactic(auto)]
+
 ghost use Rattle.std.specs.Prelude.{◌≡◌, cond, ◌≤◌, ◌+◌, length, take, drop};
 ghost use Rattle.integers.specs.Apart.{whole_of};
 ghost use Rattle.tally.specs.Tally.{count, within, is_low, is_high, is_lost, tally_of, saturated_of};
@@ -9,7 +11,7 @@ use values::Range;
 
 // What a level does to a list of gains: how many it holds at 0 and at 255, how many no undo brings back, and the least and the greatest of
 // them afterwards, 255 and 0 for none.
-#[derive(Drop)]
+#[derive(Clone, Copy)]
 pub struct Tallied {
     pub low: usize,
     pub high: usize,

@@ -1,4 +1,6 @@
 // Undo: every gain moved back, and the file without the items that said so.
+#![tactic(auto)]
+
 ghost use Rattle.std.specs.Prelude.{◌≡◌, ◌≤◌, length};
 ghost use Rattle.lists.specs.Write.{over};
 ghost use Rattle.calls.specs.Calls.{Level, undo_plan};

@@ -1,4 +1,6 @@
 // UTF-8 by the Unicode standard: what stands at a place of a text, where its characters end, and whether it is well formed.
+#![tactic(auto)]
+
 ghost use Rattle.std.specs.Prelude.{◌≡◌, true, ◌&&◌, ◌≤◌, ◌+◌, ltb, length, take, drop};
 ghost use Rattle.utf8.specs.Utf8.{class, number_of, Classes, begins, follow, step_of, valid, plain};
 ghost use Rattle.utf8.specs.Runs.{Stretch, Ran};
@@ -6,7 +8,7 @@ ghost use Rattle.utf8.specs.Runs.{Stretch, Ran};
 pub mod table;
 
 // What stands at a place: a character of so many bytes, an ill-formed part of so many, or the end.
-#[derive(Drop)]
+#[derive(Clone, Copy)]
 pub enum Part {
     Good(usize),
     Bad(usize),
@@ -14,7 +16,7 @@ pub enum Part {
 }
 
 // Where characters end, and how many bytes the ill-formed part there has.
-#[derive(Drop)]
+#[derive(Clone, Copy)]
 pub struct Run {
     pub end: usize,
     pub bad: usize,

@@ -1,4 +1,6 @@
 // Replays the recorded answers of Rust's standard library for crates utf8, lossy and singly.
+#![tactic(auto)]
+
 ghost use Rattle.std.specs.Prelude.{◌≤◌};
 
 use lossy::Converted;

@@ -1,4 +1,6 @@
 // The values that mp3gain keeps in a tag: undo texts and ranges; and by its key, the shift of each stored value.
+#![tactic(auto)]
+
 ghost use Rattle.std.specs.Prelude.{◌≡◌, not, ◌||◌, eqb, ◌<◌, min, ◌+ℤ◌, ◌-ℤ◌};
 ghost use Rattle.std.proofs.Math.Option.{get_or};
 ghost use Rattle.number.specs.Reading.{i32, is_u8};
@@ -15,21 +17,21 @@ use keys::Which;
 use number::{I32Field, U8Field};
 
 // The steps that undo what was applied.
-#[derive(Drop)]
+#[derive(Clone, Copy)]
 pub struct UndoValues {
     pub left: i32,
     pub right: i32,
 }
 
 // The least and the greatest gain.
-#[derive(Drop)]
+#[derive(Clone, Copy)]
 pub struct Range {
     pub least: u8,
     pub greatest: u8,
 }
 
 // The range of a text, or that it has none.
-#[derive(Drop)]
+#[derive(Clone, Copy)]
 pub enum RangeField {
     Value(Range),
     Nothing,
@@ -248,7 +250,7 @@ fn shift_range(text: &[u8], steps: GainSteps) -> Shifted
 }
 
 // The kinds of values that a shift tells apart.
-#[derive(Drop)]
+#[derive(Clone, Copy)]
 pub enum Kind {
     Range,
     Gain,

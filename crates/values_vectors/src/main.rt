@@ -1,5 +1,7 @@
 // Replays the published Rust's recorded answers for crates values and decibels. The lines on slips, which the Rust does not have, and on
 // exact decibels, where it has f64, are a second reading of document 01.
+#![tactic(auto)]
+
 use decimal::Text;
 use frame::{GainMode, GainSteps};
 use slip::{Slip, SlipMode};

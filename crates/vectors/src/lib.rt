@@ -1,11 +1,13 @@
 // A replay of recorded answers: lines of words. A line that begins with `#` is a comment.
+#![tactic(auto)]
+
 ghost use Rattle.std.specs.Prelude.{◌≡◌, ◌*◌, ◌%◌, ◌^◌, ◌<◌, ◌≤◌, length, replicate};
 ghost use Rattle.lists.specs.Write.{over};
 ghost use Rattle.vectors.specs.Digest.{digest_of};
 ghost use Rattle.vectors.specs.Lines as L;
 
 // A replay on its way: the place of the next answer, how many were replayed, and how many of them differ.
-#[derive(Drop)]
+#[derive(Clone, Copy)]
 pub struct Replay {
     pub at: usize,
     pub answers: u32,

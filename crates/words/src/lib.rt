@@ -2,6 +2,8 @@
 //
 // Each function takes the whole text and a place in it, and is total: a word of another form gives some number, so that a damaged
 // list shows as a difference.
+#![tactic(auto)]
+
 ghost use Rattle.std.specs.Prelude.{◌≡◌, ◌*◌, ◌%◌, ◌^◌, ◌≤◌, ◌<◌, length, take, drop};
 ghost use Rattle.lists.specs.Bytes.{same};
 ghost use Rattle.lists.specs.Write.{over};
