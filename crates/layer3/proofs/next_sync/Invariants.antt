@@ -1,0 +1,15 @@
+-- The invariant: the walk finds from i what it finds from the start. No frame begins where no header may.
+use Prim.Native.Nat.{◌-◌, ◌≤◌}
+use native.Mathlib.Omega.{arith}
+use mathlib.Core.Path.{◌≡◌, sym, ◌∙◌}
+use borrow.Author.Rules.{rules}
+use lib.ListN.{length}
+use Rattle.layer3.specs.Walk.{walk}
+use Rattle.layer3.proofs.Walk.{walk-past}
+use Rattle.layer3.proofs.next_sync.Given as goal
+
+abbrev pub invariant-loop-i : goal.invariant-loop-i
+invariant-loop-i l = (l.at ≤ l.i) × (walk (length l.s) l.s l.i ≡ walk (length l.s) l.s l.at)
+
+abbrev pub decreases-loop-i : goal.decreases-loop-i
+decreases-loop-i l = length l.s - l.i
