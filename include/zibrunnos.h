@@ -182,13 +182,16 @@ uint32_t zib_read_ape_tag(
  * items make no tag: the length is then 0. An output of area_len + 64 bytes is long enough. Refusals 12 and 5. */
 uint32_t zib_serialize_ape_tag(const uint8_t *area, size_t area_len, size_t count, uint8_t *out, size_t out_len, size_t *written);
 
-/* Says where a file is cut around its tag: the part before it ends at `front`, and the part after it runs from `from` to `to`. Without a tag
- * the whole file is the part before it. Refusal 1. */
+/* Says where a file is cut: the part before its tag ends at `front`, and the part after it runs from `from` to `to`. Without a tag, these
+ * are the parts before and after the place where one would go. Refusal 1. */
 uint32_t zib_split_ape_tag(const uint8_t *file, size_t file_len, size_t *front, size_t *from, size_t *to);
 
-/* Says which two parts of a file stay when its tag is replaced, in the same way. It differs where nothing follows the tag, or there is none:
- * an ID3v1 block at the end of the part before the tag is then the part after it. Refusal 1. */
+/* The same, by the name that says what it is for: which two parts of a file stay when its tag is replaced. Refusal 1. */
 uint32_t zib_ape_tag_parts(const uint8_t *file, size_t file_len, size_t *front, size_t *from, size_t *to);
+
+/* Says where a file is cut around its tag alone, in the same way: without a tag the whole file is the part before it. It differs where nothing
+ * follows the tag, or there is none: an ID3v1 block at the end of the part before the tag stays there. Refusal 1. */
+uint32_t zib_cut_ape_tag(const uint8_t *file, size_t file_len, size_t *front, size_t *from, size_t *to);
 
 /* Writes a file with the `count` items of an area in place of its tag to the front of `out`, and its length into `written`. It does not
  * look at the old items, and not at the editing gate. An output of file_len + area_len + 64 bytes is long enough. Refusals 1, 12 and 5. */

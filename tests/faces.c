@@ -226,7 +226,10 @@ static void files(void)
     CHECK(zib_split_ape_tag(tagged, sizeof tagged, &front, &from, &to) == 0 && front == 5 && from == 81 && to == 209);
     CHECK(zib_split_ape_tag(large, sizeof large, &front, &from, &to) == ZIB_FILE_TOO_LONG && front == 5 && from == 81 && to == 209);
     CHECK(zib_ape_tag_parts(tagged, sizeof tagged, &front, &from, &to) == 0 && front == 5 && from == 81 && to == 209);
-    CHECK(zib_split_ape_tag(tagged + 81, 128, &front, &from, &to) == 0 && front == 128 && from == 128 && to == 128);
+    CHECK(zib_cut_ape_tag(tagged, sizeof tagged, &front, &from, &to) == 0 && front == 5 && from == 81 && to == 209);
+    CHECK(zib_cut_ape_tag(tagged + 81, 128, &front, &from, &to) == 0 && front == 128 && from == 128 && to == 128);
+    CHECK(zib_cut_ape_tag(large, sizeof large, &front, &from, &to) == ZIB_FILE_TOO_LONG && front == 128 && from == 128 && to == 128);
+    CHECK(zib_split_ape_tag(tagged + 81, 128, &front, &from, &to) == 0 && front == 0 && from == 0 && to == 128);
     CHECK(zib_ape_tag_parts(tagged + 81, 128, &front, &from, &to) == 0 && front == 0 && from == 0 && to == 128);
     CHECK(zib_ape_tag_parts(large, sizeof large, &front, &from, &to) == ZIB_FILE_TOO_LONG && front == 0 && from == 0 && to == 128);
     CHECK(zib_find_audio_end(tagged, sizeof tagged, &at) == 0 && at == 5);
@@ -405,6 +408,7 @@ static void empty(void)
     CHECK(zib_serialize_ape_tag(NONE, 0, NONE, &a) == 0 && a == 0 && zib_serialize_ape_tag(TEXT(AREA), 1, NONE, &a) == ZIB_NO_ROOM);
     CHECK(zib_split_ape_tag(NONE, &a, &b, &c) == 0 && a == 0 && b == 0 && c == 0);
     CHECK(zib_ape_tag_parts(NONE, &a, &b, &c) == 0 && a == 0 && b == 0 && c == 0);
+    CHECK(zib_cut_ape_tag(NONE, &a, &b, &c) == 0 && a == 0 && b == 0 && c == 0);
     CHECK(zib_find_audio_end(NONE, &a) == 0 && a == 0);
     CHECK(zib_replace_ape_tag(NONE, NONE, 0, NONE, &a) == 0 && a == 0 && zib_replace_ape_tag(NONE, TEXT(AREA), 1, NONE, &a) == ZIB_NO_ROOM);
     CHECK(zib_bytes_needed(NONE, 0, &a) == 0 && a == 0 && zib_read_end(NONE, 0, NONE, &there, &a, &b) == 0 && there == 0);

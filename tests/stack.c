@@ -66,6 +66,7 @@ static const char *names[] = {
     "zib_bytes_needed", "zib_read_end",
     "zib_rewrite_ape_tail", "zib_rewrite_within",
     "zib_set_length", "zib_remove_length", "zib_level_length", "zib_level_by_slip_length", "zib_undo_length",
+    "zib_cut_ape_tag",
 };
 enum { CALLS = sizeof names / sizeof *names, WAYS = 3 };
 
@@ -192,6 +193,7 @@ static void call(int which, int way, int tag)
         break;
     }
     case 59: zib_undo_length(file, file_len, left, sizeof left, right, sizeof right, &a); break;
+    case 60: zib_cut_ape_tag(file, file_len, &a, &b, &c); break;
     }
     if ((which == 57 || which == 58) && reply != 0) {
         printf("stack: the length of a level is refused with %u\n", reply);

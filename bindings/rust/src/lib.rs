@@ -537,7 +537,8 @@ pub fn replace_tag(file: &[u8], items: &Items) -> Result<Vec<u8>> {
     })
 }
 
-/// Splits a file into the part before its tag and the part after it. Without a tag the first is the whole file.
+/// Splits a file into the part before its tag and the part after it. Without a tag, these are the parts before and after the place where
+/// one would go, which is before an ID3v1 block.
 ///
 /// ```
 /// let file = zibrunnos::set_item(b"audio", b"Title", b"Floor")?;
@@ -551,20 +552,35 @@ pub fn split_tag(file: &[u8]) -> Result<(&[u8], &[u8])> {
     done(reply, (&file[..front], &file[from..to]))
 }
 
-/// Gives the two parts of a file that stay when its tag is replaced. They are those of [`split_tag`], but where nothing follows the tag, or
-/// there is none, an ID3v1 block at the end of the first part is the second.
+/// Gives the two parts of a file that stay when its tag is replaced: those of [`split_tag`], by the name that says what they are for.
 ///
 /// ```
 /// let mut block = [0; 128];
 /// block[..3].copy_from_slice(b"TAG");
 /// assert_eq!(zibrunnos::tag_parts(&block)?, (&b""[..], &block[..]));
-/// assert_eq!(zibrunnos::split_tag(&block)?, (&block[..], &b""[..]));
 /// # Ok::<(), zibrunnos::Refusal>(())
 /// ```
 pub fn tag_parts(file: &[u8]) -> Result<(&[u8], &[u8])> {
     let (mut front, mut from, mut to) = (0, 0, 0);
     // SAFETY: a slice by its pointer and length.
     let reply = unsafe { raw::zib_ape_tag_parts(file.as_ptr(), file.len(), &mut front, &mut from, &mut to) };
+    done(reply, (&file[..front], &file[from..to]))
+}
+
+/// Cuts a file around its tag alone. The parts are those of [`split_tag`], but where nothing follows the tag, or there is none, an ID3v1 block
+/// at the end of the first part stays there. Without a tag the first is the whole file.
+///
+/// ```
+/// let mut block = [0; 128];
+/// block[..3].copy_from_slice(b"TAG");
+/// assert_eq!(zibrunnos::cut_tag(&block)?, (&block[..], &b""[..]));
+/// assert_eq!(zibrunnos::split_tag(&block)?, (&b""[..], &block[..]));
+/// # Ok::<(), zibrunnos::Refusal>(())
+/// ```
+pub fn cut_tag(file: &[u8]) -> Result<(&[u8], &[u8])> {
+    let (mut front, mut from, mut to) = (0, 0, 0);
+    // SAFETY: a slice by its pointer and length.
+    let reply = unsafe { raw::zib_cut_ape_tag(file.as_ptr(), file.len(), &mut front, &mut from, &mut to) };
     done(reply, (&file[..front], &file[from..to]))
 }
 

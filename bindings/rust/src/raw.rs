@@ -252,6 +252,13 @@ extern "C" {
         from: *mut usize,
         to: *mut usize,
     ) -> u32;
+    pub fn zib_cut_ape_tag(
+        file: *const u8,
+        file_len: usize,
+        front: *mut usize,
+        from: *mut usize,
+        to: *mut usize,
+    ) -> u32;
     pub fn zib_replace_ape_tag(
         file: *const u8,
         file_len: usize,

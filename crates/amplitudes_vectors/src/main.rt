@@ -3,6 +3,7 @@
 
 use amplitudes::Amplified;
 use frame::GainSteps;
+use std::io;
 use vectors::Replay;
 
 // Whether a number has these bits. No amplitude is a NaN, which differs from itself.
@@ -52,8 +53,8 @@ fn replay(text: &[u8]) -> Replay {
     r
 }
 
-fn main() {
+fn main(rt: HostRuntime) -> io::Result<()> {
     let mut text = vectors::buffer();
-    let n = io::read_full(0, &mut text);
-    vectors::report(b"amplitudes", replay(&text[..n]));
+    let n = input::read_full(&rt, &mut text)?;
+    vectors::report(&rt, b"amplitudes", replay(&text[..n]))
 }

@@ -1,15 +1,16 @@
--- Laws of `tag_cut` and `cut_of`: where a file is cut, by the tests of the code, and that `cut_of` leaves the parts that `split` says.
+-- Laws of `cut_of` and `tag_cut`: where a file is cut, by the tests of the code, and that it leaves the parts that `split` says.
 use Prim.Native.Nat.{ℕ, zero, suc, ◌+◌, ◌-◌, ◌≤◌, ◌<◌}
 use native.Mathlib.Omega.{arith}
 use mathlib.Core.Path.{◌≡◌, refl, sym, ap, ◌∙◌}
-use mathlib.Core.Bool.{Bool, true, false}
+use mathlib.Core.Bool.{Bool, true, false, cond}
 use mathlib.Core.List.{List, [], ◌∷◌, ◌++◌}
 use lib.ListN.{length, take, drop, length-append, length-drop, drop_of_length-le}
 use lib.Seq.{length-take-le, take-take, take_all}
-use lib.Dec.{ltb}
-use borrow.Author.Tests.{ltb-true, ltb-false, lt-ltb, le-ltb}
+use lib.Dec.{leb, ltb}
+use borrow.Author.Tests.{leb-true, ltb-true, ltb-false, lt-ltb, le-ltb}
+use Rattle.lists.specs.Bytes.{starts_with}
 use Rattle.lists.specs.Write.{part}
-use Rattle.frame.specs.Tail.{ends_with_id3v1, tag_start}
+use Rattle.frame.specs.Tail.{id3v1_mark, stands_at, ends_with_id3v1, tag_start}
 use Rattle.frame.specs.declared.TagStart.{TagStart}
 use Rattle.frame.specs.declared.TagStart.TheVariants.{At as StartAt, Nowhere as NoStart}
 use Rattle.frame.proofs.Tails.{id3v1-long, start-within}
@@ -82,6 +83,28 @@ module _ (s : List ℕ) where
   -- ---- the cut, by the tests of the code
 
   -- all is audio
+  pub cut-none : find_footer s ≡ Nowhere → audio_cut s (length s) ≡ cut_of s
+  unfolding cut_of
+  cut-none e = rw e
+
+  module _ (f : ℕ) (at : find_footer s ≡ At f) where
+    pub cut-unstarted : tag_start s f ≡ NoStart → audio_cut s (length s) ≡ cut_of s
+    unfolding cut_of
+    cut-unstarted e = rw (at, e)
+
+    -- something follows the footer
+    pub cut-rest : (a : ℕ) → tag_start s f ≡ StartAt a → f + 32 < length s → cut a (f + 32) (length s) ≡ cut_of s
+    unfolding cut_of
+    cut-rest a e h = rw (at, e, lt-ltb _ _ h)
+
+    -- nothing does
+    pub cut-last : (a : ℕ) → tag_start s f ≡ StartAt a → length s ≤ f + 32 → audio_cut s a ≡ cut_of s
+    unfolding cut_of
+    cut-last a e h = rw (at, e, le-ltb _ _ h)
+
+  -- ---- the cut around the tag alone
+
+  -- all is audio
   pub tag-none : find_footer s ≡ Nowhere → cut (length s) (length s) (length s) ≡ tag_cut s
   unfolding tag_cut
   tag-none e = rw e
@@ -95,16 +118,28 @@ module _ (s : List ℕ) where
     unfolding tag_cut
     tag-started a e = rw (at, e)
 
+  -- the cut in two steps: around the tag, and where nothing follows it, before an ID3v1 block at the end of the audio
+  cut-by-tag : cut_of s ≡ cond (ltb (tag_cut s).from (tag_cut s).to) (tag_cut s) (audio_cut s (tag_cut s).front)
+  unfolding cut_of tag_cut
+  cut-by-tag = go (find_footer s) refl
+    where
+      begun : (f : ℕ) (at : find_footer s ≡ At f) (t : TagStart) → tag_start s f ≡ t
+          → cut_of s ≡ cond (ltb (tag_cut s).from (tag_cut s).to) (tag_cut s) (audio_cut s (tag_cut s).front)
+      begun f at (StartAt a) e = rw (at, e)
+      begun f at NoStart e = rw (at, e, le-ltb (length s) (length s) (omega arith))
+
+      go : (x : Footer) → find_footer s ≡ x → cut_of s ≡ cond (ltb (tag_cut s).from (tag_cut s).to) (tag_cut s) (audio_cut s (tag_cut s).front)
+      go (At f) at = begun f at (tag_start s f) refl
+      go Nowhere e = rw (e, le-ltb (length s) (length s) (omega arith))
+
   module _ (c : Cut) (is : c ≡ tag_cut s) where
     -- something follows the tag
     pub parts-rest : c.from < c.to → c ≡ cut_of s
-    unfolding cut_of
-    parts-rest h = rw (← is, lt-ltb _ _ h)
+    parts-rest h = rw (cut-by-tag, ← is, lt-ltb _ _ h)
 
     -- nothing does
     pub parts_last : c.to ≤ c.from → audio_cut s c.front ≡ cut_of s
-    unfolding cut_of
-    parts_last h = rw (← is, le-ltb _ _ h)
+    parts_last h = rw (cut-by-tag, ← is, le-ltb _ _ h)
 
   -- ---- it leaves the parts that `split` says
 
@@ -139,47 +174,22 @@ module _ (s : List ℕ) where
     split_started : (a : ℕ) → tag_start s f ≡ StartAt a → CutsAs (split s) s (cut_of s)
     split_started a e = go (ltb (f + 32) (length s)) refl
       where
-        is : cut a (f + 32) (length s) ≡ tag_cut s
-        is = tag-started f at a e
-
         go : (t : Bool) → ltb (f + 32) (length s) ≡ t → CutsAs (split s) s (cut_of s)
-        go true q = let h : f + 32 < length s = ltb-true _ _ q in rw (← parts-rest _ is h) (split_rest a e h)
+        go true q = let h : f + 32 < length s = ltb-true _ _ q in rw (← cut-rest f at a e h) (split_rest a e h)
         go false q =
             let h : length s ≤ f + 32 = ltb-false _ _ q in
-            rw (← parts_last _ is h, split-last a e h) (audio-cuts s a (omega (arith, start-within s f a e)))
-
-  -- without a tag
-  cut_all : cut (length s) (length s) (length s) ≡ tag_cut s → split s ≡ moved s [] → CutsAs (split s) s (cut_of s)
-  cut_all is e = rw (← parts_last _ is (omega arith), e) all-audio
-
-  module _ (A : Cut → Type 0) (none : A (cut (length s) (length s) (length s)))
-      (some : (f a : ℕ) → find_footer s ≡ At f → tag_start s f ≡ StartAt a → A (cut a (f + 32) (length s))) where
-    -- what holds of each of the ways to cut holds of the cut
-    tag-cases : A (tag_cut s)
-    tag-cases = go (find_footer s) refl
-      where
-        begun : (f : ℕ) (at : find_footer s ≡ At f) (t : TagStart) → tag_start s f ≡ t → A (tag_cut s)
-        begun f at (StartAt a) e = rw (← tag-started f at a e) (some f a at e)
-        begun f at NoStart e = rw (← tag-unstarted f at e) none
-
-        go : (x : Footer) → find_footer s ≡ x → A (tag_cut s)
-        go (At f) at = begun f at (tag_start s f) refl
-        go Nowhere e = rw (← tag-none e) none
-
-  -- the audio lies in the file
-  pub tag-within : (c : Cut) → c ≡ tag_cut s → c.front ≤ length s
-  tag-within c is = rw is (tag-cases (λ (c : Cut). c.front ≤ length s) (omega arith) (λ f a at e. omega (arith, start-within s f a e)))
+            rw (← cut-last f at a e h, split-last a e h) (audio-cuts s a (omega (arith, start-within s f a e)))
 
   pub cut-is : CutsAs (split s) s (cut_of s)
   cut-is = go (find_footer s) refl
     where
       begun : (f : ℕ) (at : find_footer s ≡ At f) (t : TagStart) → tag_start s f ≡ t → CutsAs (split s) s (cut_of s)
       begun f at (StartAt a) e = split_started f at a e
-      begun f at NoStart e = cut_all (tag-unstarted f at e) (split-unstarted f at e)
+      begun f at NoStart e = rw (← cut-unstarted f at e, split-unstarted f at e) all-audio
 
       go : (x : Footer) → find_footer s ≡ x → CutsAs (split s) s (cut_of s)
       go (At f) at = begun f at (tag_start s f) refl
-      go Nowhere e = cut_all (tag-none e) (split-none e)
+      go Nowhere e = rw (← cut-none e, split-none e) all-audio
 
   -- so does the answer of the code
   pub cuts-as : (c : Cut) → c ≡ cut_of s → CutsAs (split s) s c

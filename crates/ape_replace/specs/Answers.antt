@@ -25,7 +25,7 @@ replace_plan file area count room =
 abbrev pub cut : ℕ → ℕ → ℕ → Cut
 cut front from to = record { front = front; from = from; to = to }
 
--- split_ape_tag: with a footer and a start, the audio ends at the start, and what stands behind the footer follows; else all is audio
+-- cut_ape_tag: around the tag alone; without a footer or a start all is audio
 unfoldable pub tag_cut : List ℕ → Cut
 tag_cut s =
     let n = length s in
@@ -35,17 +35,20 @@ tag_cut s =
 unfoldable pub audio_cut : List ℕ → ℕ → Cut
 audio_cut s end = cond (ends_with_id3v1 (take end s)) (cut (end - 128) (end - 128) end) (cut end end end)
 
--- ape_tag_parts: the same, but where nothing follows, an ID3v1 block at the end of the audio does
+-- split_ape_tag: with a footer and a start, the audio ends at the start, and what stands behind the footer follows; else all is audio
 unfoldable pub cut_of : List ℕ → Cut
-cut_of s = let c = tag_cut s in cond (ltb c.from c.to) c (audio_cut s c.front)
+cut_of s =
+    footed (find_footer s) (audio_cut s (length s)) (λ f.
+    started (tag_start s f) (audio_cut s (length s)) (λ a.
+    cond (ltb (f + 32) (length s)) (cut a (f + 32) (length s)) (audio_cut s a)))
 
--- split_ape_tag as a call: refusal 1
+-- the split as a call: refusal 1
 abbrev pub split_plan : List ℕ → Plan Cut
-split_plan file = planned (refusal_of (lent_fits file ∷ [])) (tag_cut file)
+split_plan file = planned (refusal_of (lent_fits file ∷ [])) (cut_of file)
 
--- ape_tag_parts as a call: refusal 1
-abbrev pub parts_plan : List ℕ → Plan Cut
-parts_plan file = planned (refusal_of (lent_fits file ∷ [])) (cut_of file)
+-- cut_ape_tag as a call: refusal 1
+abbrev pub tag_plan : List ℕ → Plan Cut
+tag_plan file = planned (refusal_of (lent_fits file ∷ [])) (tag_cut file)
 
 -- a cut leaves these two parts
 pub record Cuts (x : Split) (s : List ℕ) (front from to : ℕ) : Type 0 where

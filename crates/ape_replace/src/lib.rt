@@ -1,4 +1,4 @@
-// Where a file is cut, and the file with its tag replaced: split_ape_tag, ape_tag_parts and replace_ape_tag.
+// Where a file is cut, and the file with its tag replaced: split_ape_tag, cut_ape_tag and replace_ape_tag.
 #![tactic(auto)]
 
 ghost use Rattle.std.specs.Prelude.{◌≡◌, true, ◌≤◌, ◌+◌, ◌-◌, length};
@@ -42,8 +42,31 @@ pub fn cut_audio(file: &[u8], end: usize) -> Cut
     }
 }
 
-// Where a file is cut around its tag: the audio before it, and what stands behind its footer. Without a tag all is audio.
+// Where a file is cut: around its tag, or where one would be put.
 pub fn split_ape_tag(file: &[u8]) -> Cut
+    ensures { result ≡ cut_of file.now }
+{
+    let found = ape::find_footer(file);
+    let Footer::At(footer) = found else {
+        return cut_audio(file, file.len());
+    };
+    let s = frame::ape_tag_start(file, footer);
+    let TagStart::At(start) = s else {
+        return cut_audio(file, file.len());
+    };
+    let rest = footer + 32;
+    if rest < file.len() {
+        return Cut {
+            front: start,
+            from: rest,
+            to: file.len(),
+        };
+    }
+    cut_audio(file, start)
+}
+
+// Where a file is cut around its tag alone: the audio before it, and what stands behind its footer. Without a tag all is audio.
+pub fn cut_ape_tag(file: &[u8]) -> Cut
     ensures { result ≡ tag_cut file.now }
 {
     let n = file.len();
@@ -56,7 +79,7 @@ pub fn split_ape_tag(file: &[u8]) -> Cut
         };
     };
     let s = frame::ape_tag_start(file, footer);
-    let TagStart::At(start) = s else {
+    let TagStart::At(before) = s else {
         return Cut {
             front: n,
             from: n,
@@ -64,21 +87,17 @@ pub fn split_ape_tag(file: &[u8]) -> Cut
         };
     };
     Cut {
-        front: start,
+        front: before,
         from: footer + 32,
         to: n,
     }
 }
 
-// The two parts of a file that stay when its tag is replaced: where nothing follows the tag, an ID3v1 block at the end of the audio does.
+// The two parts of a file that stay when its tag is replaced: `split_ape_tag`, by the name that says what it is for.
 pub fn ape_tag_parts(file: &[u8]) -> Cut
     ensures { result ≡ cut_of file.now }
 {
-    let cut = split_ape_tag(file);
-    if cut.from < cut.to {
-        return cut;
-    }
-    cut_audio(file, cut.front)
+    split_ape_tag(file)
 }
 
 // How long the file is that has this tag in place of its own: what precedes it, the tag, and what follows.
@@ -113,7 +132,7 @@ pub fn replace_items(file: &[u8], area: &[u8], count: usize, out: &mut [u8]) -> 
     ensures { let plan = room_plan file.now (items_in count area.now) (length out.old) in
         (result ≡ written_answer plan) × (out.new ≡ over (written_bytes plan) out.old) }
 {
-    let cut = ape_tag_parts(file);
+    let cut = split_ape_tag(file);
     let n = file_length(cut, ape_write::tag_length(area.len(), count));
     if out.len() < n {
         return Written::Refused(Refusal::NoRoom);

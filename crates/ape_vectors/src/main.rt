@@ -4,6 +4,7 @@
 use ape::{FooterFound, TagRead};
 use ape_replace::Cut;
 use ape_write::Written;
+use std::io;
 use vectors::Replay;
 use words::is_hex;
 
@@ -102,14 +103,14 @@ fn is_cut(text: &[u8], at: usize, cut: Cut) -> bool {
     cut.to as u64 == words::unsigned(text, words::next_word(text, from))
 }
 
-// `split FILE FRONT FROM TO FRONT FROM TO`: by split_ape_tag, and by ape_tag_parts.
+// `split FILE FRONT FROM TO FRONT FROM TO`: by cut_ape_tag, which is what the Rust calls split_ape_tag, and by ape_tag_parts.
 fn split(text: &[u8], at: usize) -> bool {
     let mut file = [0u8; 4096];
     let n = words::hex_bytes(text, at, &mut file);
     let first = words::next_word(text, at);
     let from = words::next_word(text, first);
     let to = words::next_word(text, from);
-    if !is_cut(text, first, ape_replace::split_ape_tag(&file[0..n])) {
+    if !is_cut(text, first, ape_replace::cut_ape_tag(&file[0..n])) {
         return false;
     }
     is_cut(
@@ -148,8 +149,8 @@ fn replay(text: &[u8]) -> Replay {
     r
 }
 
-fn main() {
+fn main(rt: HostRuntime) -> io::Result<()> {
     let mut text = vectors::buffer();
-    let n = io::read_full(0, &mut text);
-    vectors::report(b"ape", replay(&text[..n]));
+    let n = input::read_full(&rt, &mut text)?;
+    vectors::report(&rt, b"ape", replay(&text[..n]))
 }

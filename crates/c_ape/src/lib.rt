@@ -5,7 +5,7 @@ ghost use Rattle.std.specs.Prelude.{◌≡◌, length};
 ghost use Rattle.lists.specs.Write.{over};
 ghost use Rattle.ape.specs.Answers.{footer_plan, footer_answer, read_plan, read_answer, read_bytes};
 ghost use Rattle.ape_write.specs.Answers.{serialize_plan, written_answer, written_bytes};
-ghost use Rattle.ape_replace.specs.Answers.{split_plan, parts_plan, replace_plan};
+ghost use Rattle.ape_replace.specs.Answers.{split_plan, tag_plan, replace_plan};
 ghost use Rattle.c_ape.specs.ApeFace.{footer_face, read_face, written_face, split_face};
 
 use ape::{FooterFound, TagRead};
@@ -14,8 +14,7 @@ use ape_write::Written;
 use replies::Refusal;
 
 // Where the footer of the file's tag stands: `there` is 1 and `footer` its place, or both are 0. Refusal 1.
-#[unsafe(no_mangle)]
-pub extern "C" fn zib_find_ape_footer(file: &[u8], there: &mut u32, footer: &mut usize) -> u32
+pub fn zib_find_ape_footer(file: &[u8], there: &mut u32, footer: &mut usize) -> u32
     ensures { let found = footer_answer (footer_plan file.now) in
         let face = footer_face found there.old footer.old in
         (result ≡ face.reply) × (there.new ≡ face.there) × (footer.new ≡ face.footer) }
@@ -38,8 +37,7 @@ pub extern "C" fn zib_find_ape_footer(file: &[u8], there: &mut u32, footer: &mut
 
 // Reads the file's tag into `area`: `there` is 1, with the count of items and the length of their area, or all three are 0 for no tag.
 // Refusals 1 and 5.
-#[unsafe(no_mangle)]
-pub extern "C" fn zib_read_ape_tag(
+pub fn zib_read_ape_tag(
     file: &[u8],
     area: &mut [u8],
     there: &mut u32,
@@ -86,13 +84,7 @@ pub fn put_written(w: Written, written: &mut usize) -> u32
 }
 
 // The tag of the `count` items of `area`, written to the front of `out`, and its length into `written`. Refusals 12 and 5.
-#[unsafe(no_mangle)]
-pub extern "C" fn zib_serialize_ape_tag(
-    area: &[u8],
-    count: usize,
-    out: &mut [u8],
-    written: &mut usize,
-) -> u32
+pub fn zib_serialize_ape_tag(area: &[u8], count: usize, out: &mut [u8], written: &mut usize) -> u32
     ensures { let plan = serialize_plan area.now count (length out.old) in
         let face = written_face (written_answer plan) written.old in
         (result ≡ face.reply) × (written.new ≡ face.written) × (out.new ≡ over (written_bytes plan) out.old) }
@@ -109,15 +101,9 @@ fn hand_out(cut: Cut, front: &mut usize, from: &mut usize, to: &mut usize)
     *to = cut.to;
 }
 
-// Where the file is cut around its tag: the audio before it ends at `front`, and what stands behind its footer lies between `from` and `to`.
-// Without a tag all is audio. Refusal 1.
-#[unsafe(no_mangle)]
-pub extern "C" fn zib_split_ape_tag(
-    file: &[u8],
-    front: &mut usize,
-    from: &mut usize,
-    to: &mut usize,
-) -> u32
+// Where the file is cut: what precedes its tag ends at `front`, and what follows it stands between `from` and `to`. Without a tag, the
+// same of the place where one would be put. Refusal 1.
+pub fn zib_split_ape_tag(file: &[u8], front: &mut usize, from: &mut usize, to: &mut usize) -> u32
     ensures { let face = split_face (split_plan file.now) front.old from.old to.old in
         (result ≡ face.reply) × (front.new ≡ face.front) × (from.new ≡ face.from) × (to.new ≡ face.to) }
 {
@@ -128,16 +114,9 @@ pub extern "C" fn zib_split_ape_tag(
     0
 }
 
-// The two parts of the file that stay when its tag is replaced, likewise: where nothing follows the tag, an ID3v1 block at the end of the
-// audio does. Refusal 1.
-#[unsafe(no_mangle)]
-pub extern "C" fn zib_ape_tag_parts(
-    file: &[u8],
-    front: &mut usize,
-    from: &mut usize,
-    to: &mut usize,
-) -> u32
-    ensures { let face = split_face (parts_plan file.now) front.old from.old to.old in
+// `zib_split_ape_tag`, by the name that says what it is for: the two parts of the file that stay when its tag is replaced. Refusal 1.
+pub fn zib_ape_tag_parts(file: &[u8], front: &mut usize, from: &mut usize, to: &mut usize) -> u32
+    ensures { let face = split_face (split_plan file.now) front.old from.old to.old in
         (result ≡ face.reply) × (front.new ≡ face.front) × (from.new ≡ face.from) × (to.new ≡ face.to) }
 {
     if replies::FILE_LIMIT < file.len() {
@@ -147,10 +126,22 @@ pub extern "C" fn zib_ape_tag_parts(
     0
 }
 
+// Where the file is cut around its tag alone: the audio before it ends at `front`, and what stands behind its footer lies between `from` and `to`.
+// Without a tag all is audio. Refusal 1.
+pub fn zib_cut_ape_tag(file: &[u8], front: &mut usize, from: &mut usize, to: &mut usize) -> u32
+    ensures { let face = split_face (tag_plan file.now) front.old from.old to.old in
+        (result ≡ face.reply) × (front.new ≡ face.front) × (from.new ≡ face.from) × (to.new ≡ face.to) }
+{
+    if replies::FILE_LIMIT < file.len() {
+        return replies::number(Refusal::FileTooLong);
+    }
+    hand_out(ape_replace::cut_ape_tag(file), front, from, to);
+    0
+}
+
 // The file with its tag replaced by the `count` items of `area`, written to the front of `out`, and its length into `written`.
 // Refusals 1, 12 and 5.
-#[unsafe(no_mangle)]
-pub extern "C" fn zib_replace_ape_tag(
+pub fn zib_replace_ape_tag(
     file: &[u8],
     area: &[u8],
     count: usize,

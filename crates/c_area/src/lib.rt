@@ -34,8 +34,7 @@ fn edited(e: Edited, items: &mut usize, written: &mut usize) -> u32
 }
 
 // The area with this value at the first item with this key, or with one more item. Refusals 12, 3, 4 and 5.
-#[unsafe(no_mangle)]
-pub extern "C" fn zib_set(
+pub fn zib_set(
     area: &[u8],
     count: usize,
     key: &[u8],
@@ -54,8 +53,7 @@ pub extern "C" fn zib_set(
 }
 
 // The area without the items that have this key. Refusals 12, 3 and 5.
-#[unsafe(no_mangle)]
-pub extern "C" fn zib_remove(
+pub fn zib_remove(
     area: &[u8],
     count: usize,
     key: &[u8],
@@ -73,8 +71,7 @@ pub extern "C" fn zib_remove(
 }
 
 // The area without REPLAYGAIN_KEYS. Refusals 12 and 5.
-#[unsafe(no_mangle)]
-pub extern "C" fn zib_remove_replaygain(
+pub fn zib_remove_replaygain(
     area: &[u8],
     count: usize,
     out: &mut [u8],
@@ -91,8 +88,7 @@ pub extern "C" fn zib_remove_replaygain(
 }
 
 // The area without UNDONE_KEYS. Refusals 12 and 5.
-#[unsafe(no_mangle)]
-pub extern "C" fn zib_drop_undone(
+pub fn zib_drop_undone(
     area: &[u8],
     count: usize,
     out: &mut [u8],
@@ -108,8 +104,7 @@ pub extern "C" fn zib_drop_undone(
 }
 
 // The area without the eight keys of mp3gain. Refusals 12 and 5.
-#[unsafe(no_mangle)]
-pub extern "C" fn zib_take_mp3gain(
+pub fn zib_take_mp3gain(
     area: &[u8],
     count: usize,
     out: &mut [u8],
@@ -125,8 +120,7 @@ pub extern "C" fn zib_take_mp3gain(
 }
 
 // The area with an undo text of these numbers and this flag. Refusals 12 and 5.
-#[unsafe(no_mangle)]
-pub extern "C" fn zib_set_undo_gain(
+pub fn zib_set_undo_gain(
     area: &[u8],
     count: usize,
     left: i32,
@@ -146,8 +140,7 @@ pub extern "C" fn zib_set_undo_gain(
 }
 
 // The area with a range text of these gains. Refusals 12 and 5.
-#[unsafe(no_mangle)]
-pub extern "C" fn zib_set_minmax(
+pub fn zib_set_minmax(
     area: &[u8],
     count: usize,
     least: u8,
@@ -166,8 +159,7 @@ pub extern "C" fn zib_set_minmax(
 }
 
 // The area with each of the texts that is not empty at its REPLAYGAIN key. Refusals 12, 4 and 5.
-#[unsafe(no_mangle)]
-pub extern "C" fn zib_set_replaygain<'a>(
+pub fn zib_set_replaygain<'a>(
     area: &[u8],
     count: usize,
     track_gain: &'a [u8],

@@ -35,8 +35,7 @@ pub fn put_answer(w: LevelAnswer, written: &mut usize, peaks: &mut usize) -> u32
 
 // Every gain moved by its side's steps, under W if `wrap`, and the file with the items that say so written to the front of `out`, its length into
 // `written` and the number of its peak items that were left as found into `peaks`. Refusals 1, 2, 7, 8, 14, 9, 11, 6 and 5.
-#[unsafe(no_mangle)]
-pub extern "C" fn zib_level(
+pub fn zib_level(
     file: &[u8],
     left: &mut [u8],
     right: &mut [u8],
@@ -48,10 +47,10 @@ pub extern "C" fn zib_level(
     peaks: &mut usize,
 ) -> u32
     ensures { (let asked : Level = record { left = left_steps; right = right_steps; mode = mode_of wrap } in
-        let plan = level_plan file.now left.entry.now right.old asked (length out.old) in
+        let plan = level_plan file.now left.old right.old asked (length out.old) in
         let face = level_face (level_answer plan) written.old peaks.old in
         (result ≡ face.reply) × (written.new ≡ face.written) × (peaks.new ≡ face.peaks)
-        × (out.new ≡ over (level_bytes plan) out.old) × (left.exit.now ≡ left_after plan left.entry.now)
+        × (out.new ≡ over (level_bytes plan) out.old) × (left.new ≡ left_after plan left.old)
         × (right.new ≡ right_after plan right.old)) }
 {
     let mode = GainMode::from_wrap(wrap);
@@ -69,8 +68,7 @@ pub extern "C" fn zib_level(
 
 // Every gain moved back by the stored undo, and the file without the eight keys written to the front of `out`, its length into `written` and 0
 // into `peaks`. Refusals 1, 7, 8, 14, 10 and 5.
-#[unsafe(no_mangle)]
-pub extern "C" fn zib_undo(
+pub fn zib_undo(
     file: &[u8],
     left: &mut [u8],
     right: &mut [u8],
@@ -89,8 +87,7 @@ pub extern "C" fn zib_undo(
 
 // The area after so many steps, under W if `wrap`: written to the front of `out`, how many items it has into `items`, and its length into
 // `written`. Refusals 12, 2 and 5.
-#[unsafe(no_mangle)]
-pub extern "C" fn zib_shift_stored_gain(
+pub fn zib_shift_stored_gain(
     area: &[u8],
     count: usize,
     steps: i32,

@@ -35,13 +35,7 @@ fn mode_number(mode: SlipMode) -> u32
 }
 
 // Reads a level slip: the steps of either side, and the mode: 0 for N, 1 for W, 2 where it names none. Refusals 13 and 2.
-#[unsafe(no_mangle)]
-pub extern "C" fn zib_parse_slip(
-    text: &[u8],
-    left: &mut i32,
-    right: &mut i32,
-    mode: &mut u32,
-) -> u32
+pub fn zib_parse_slip(text: &[u8], left: &mut i32, right: &mut i32, mode: &mut u32) -> u32
     ensures { let face = slip_face (read_slip text.now) left.old right.old mode.old in
         (result ≡ face.reply) × (left.new ≡ face.left) × (right.new ≡ face.right) × (mode.new ≡ face.mode) }
 {
@@ -64,8 +58,7 @@ pub extern "C" fn zib_parse_slip(
 
 // The mode of a slip for this file: 0 and 1 stay; 2 becomes the flag of the file's first undo item, or 1 where it has none. Refusal 13 for
 // any other number.
-#[unsafe(no_mangle)]
-pub extern "C" fn zib_resolve_mode(file: &[u8], mode: u32, resolved: &mut u32) -> u32
+pub fn zib_resolve_mode(file: &[u8], mode: u32, resolved: &mut u32) -> u32
     ensures { let face = mode_face (mode_with mode) file.now resolved.old in
         (result ≡ face.reply) × (resolved.new ≡ face.mode) }
 {
@@ -86,8 +79,7 @@ pub extern "C" fn zib_resolve_mode(file: &[u8], mode: u32, resolved: &mut u32) -
 
 // Level as a slip asks: every gain moved, and the file with the items that say so written to the front of `out`, its length into `written` and
 // the number of its peak items that were left as found into `peaks`. Refusals 13, 1, 2, 7, 8, 14, 9, 11, 6 and 5.
-#[unsafe(no_mangle)]
-pub extern "C" fn zib_level_by_slip(
+pub fn zib_level_by_slip(
     slip: &[u8],
     file: &[u8],
     left: &mut [u8],

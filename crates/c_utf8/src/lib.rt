@@ -1,12 +1,12 @@
 // The faces of crates utf8 and lossy.
 #![tactic(auto)]
 
-ghost use Rattle.std.specs.Prelude.{◌≡◌, min, length};
+ghost use Rattle.std.specs.Prelude.{◌≡◌, length};
 ghost use Rattle.lists.specs.Write.{over};
 ghost use Rattle.utf8.specs.Utf8.{valid};
-ghost use Rattle.lossy.specs.Write.{answer, bytes};
-ghost use Rattle.replies.specs.Limits.{file_limit};
-ghost use Rattle.c_utf8.specs.Utf8Face.{conversion, converted};
+ghost use Rattle.lossy.specs.Lossy.{lossy};
+ghost use Rattle.lossy.specs.Write.{within, answer, bytes};
+ghost use Rattle.c_utf8.specs.Utf8Face.{conversion};
 
 use lossy::Converted;
 
@@ -18,23 +18,13 @@ pub extern "C" fn zib_is_utf8(text: &[u8]) -> bool
     utf8::is_utf8(text)
 }
 
-// Room for so many bytes, as far as a result may reach.
-fn within_limit(room: usize) -> usize
-    ensures { result ≡ min room file_limit }
-{
-    if replies::FILE_LIMIT < room {
-        return replies::FILE_LIMIT;
-    }
-    room
-}
-
 // How many bytes the text has with U+FFFD in place of each ill-formed part, into `size`, where that is at most `room`. Refusal 5.
 #[unsafe(no_mangle)]
 pub extern "C" fn zib_lossy_size(text: &[u8], room: usize, size: &mut usize) -> u32
-    ensures { let face = conversion (answer (converted room text.now)) size.old in
-        (result ≡ face.reply) × (size.new ≡ face.written) }
+    ensures { let plan = within room (lossy text.now) in
+        (result ≡ (conversion (answer plan) size.old).reply) × (size.new ≡ (conversion (answer plan) size.old).written) }
 {
-    let x = lossy::lossy_size(text, within_limit(room));
+    let x = lossy::lossy_size(text, room);
     let Converted::Done(n) = x else {
         return 5;
     };
@@ -45,12 +35,11 @@ pub extern "C" fn zib_lossy_size(text: &[u8], room: usize, size: &mut usize) -> 
 // Writes the text, with U+FFFD in place of each ill-formed part, at the front of `out`, and its length into `written`. Refusal 5.
 #[unsafe(no_mangle)]
 pub extern "C" fn zib_lossy_into(text: &[u8], out: &mut [u8], written: &mut usize) -> u32
-    ensures { let plan = converted (length out.old) text.now in
+    ensures { let plan = within (length out.old) (lossy text.now) in
         (result ≡ (conversion (answer plan) written.old).reply)
         × (written.new ≡ (conversion (answer plan) written.old).written) × (out.new ≡ over (bytes plan) out.old) }
 {
-    let room = within_limit(out.len());
-    let x = lossy::lossy_into(text, &mut out[0..room]);
+    let x = lossy::lossy_into(text, out);
     match x {
         Converted::Done(n) => {
             *written = n;

@@ -6,8 +6,7 @@ ghost use Rattle.values.specs.Undo.{parse_undo, undo_wraps, format_undo, accumul
 ghost use Rattle.values.specs.Range.{format_range};
 ghost use Rattle.values.specs.Stored.{range_wraps_out, shift_stored};
 ghost use Rattle.decibels.specs.Gain.{steps_to_db};
-ghost use Rattle.lists.specs.Write.{over};
-ghost use Rattle.c_values.specs.ValuesFace.{flag, is_new, new_text};
+ghost use Rattle.c_values.specs.ValuesFace.{flag, text_face, shift_face};
 
 use decimal::Text;
 use frame::GainSteps;
@@ -22,14 +21,19 @@ fn flag_number(yes: bool) -> u32
     0
 }
 
-// Writes a text at the front of `out`, which holds every such text, and answers its length.
-fn put_text(text: Text, out: &mut [u8; 32]) -> usize
-    requires { (text.len ≤ length text.bytes) × (text.len ≤ 32) }
-    ensures { (result ≡ text.len) × (out.new ≡ over (take text.len text.bytes) out.old) }
+// Writes a text at the front of `out`, and its length into `written`. Refusal 5.
+fn put_text(text: Text, out: &mut [u8], written: &mut usize) -> u32
+    requires { text.len ≤ length text.bytes }
+    ensures { let face = text_face (take text.len text.bytes) out.old written.old in
+        (result ≡ face.reply) × (written.new ≡ face.written) × (out.new ≡ face.out) }
 {
     let n = text.len;
+    if out.len() < n {
+        return 5;
+    }
     let bytes = text.bytes;
-    lists::put(out, 0, &bytes[0..n])
+    *written = lists::put(out, 0, &bytes[0..n]);
+    0
 }
 
 // The two numbers of an undo text, and whether it has the flag W. A missing text is lent as an empty one.
@@ -52,18 +56,20 @@ pub extern "C" fn zib_parse_undo(
     0
 }
 
-// The undo text of two numbers and a flag, written to the front of `text`; answers its length.
+// The undo text of two numbers and a flag. Refusal 5.
 #[unsafe(no_mangle)]
 pub extern "C" fn zib_format_undo_value(
     left: i32,
     right: i32,
     wrap: bool,
-    text: &mut [u8; 32],
-) -> usize
-    ensures { (result ≡ length (format_undo left right wrap)) × (text.new ≡ over (format_undo left right wrap) text.old) }
+    out: &mut [u8],
+    written: &mut usize,
+) -> u32
+    ensures { let face = text_face (format_undo left right wrap) out.old written.old in
+        (result ≡ face.reply) × (written.new ≡ face.written) × (out.new ≡ face.out) }
 {
-    let new = values::format_undo_value(left, right, wrap);
-    put_text(new, text)
+    let text = values::format_undo_value(left, right, wrap);
+    put_text(text, out, written)
 }
 
 // The undo numbers after a further apply.
@@ -86,17 +92,23 @@ pub extern "C" fn zib_accumulate_undo(
     0
 }
 
-// The text of a range, written to the front of `text`; answers its length.
+// The text of a range. Refusal 5.
 #[unsafe(no_mangle)]
-pub extern "C" fn zib_format_minmax(least: u8, greatest: u8, text: &mut [u8; 32]) -> usize
-    ensures { let new = format_range (record { least = least; greatest = greatest }) in
-        (result ≡ length new) × (text.new ≡ over new text.old) }
+pub extern "C" fn zib_format_minmax(
+    least: u8,
+    greatest: u8,
+    out: &mut [u8],
+    written: &mut usize,
+) -> u32
+    ensures { let text = format_range (record { least = least; greatest = greatest }) in
+        let face = text_face text out.old written.old in
+        (result ≡ face.reply) × (written.new ≡ face.written) × (out.new ≡ face.out) }
 {
-    let new = values::format_minmax(least, greatest);
-    put_text(new, text)
+    let text = values::format_minmax(least, greatest);
+    put_text(text, out, written)
 }
 
-// Whether an item is a range, and one of its numbers would leave 0..255.
+// Whether an item is a range of which a number leaves 0..255.
 #[unsafe(no_mangle)]
 pub extern "C" fn zib_range_wraps_out(key: &[u8], value: &[u8], steps: i32) -> bool
     ensures { result ≡ range_wraps_out key.now value.now steps }
@@ -125,24 +137,29 @@ pub extern "C" fn zib_steps_to_db(
     0
 }
 
-// A stored value after so many steps: true, and its new text stands at the front of `text`; or false, and the value stays as found, with
-// nothing written.
+// A stored value after so many steps: `moved` is 1 and the new text stands in `out`, or it is 0 and the value stays as found. Refusal 5.
 #[unsafe(no_mangle)]
 pub extern "C" fn zib_shift_stored_value(
     key: &[u8],
     value: &[u8],
     steps: i32,
-    text: &mut [u8; 32],
+    moved: &mut u32,
+    out: &mut [u8],
     written: &mut usize,
-) -> bool
+) -> u32
     ensures { let shifted = shift_stored key.now value.now steps in
-        (result ≡ is_new shifted) × (written.new ≡ length (new_text shifted)) × (text.new ≡ over (new_text shifted) text.old) }
+        let face = shift_face shifted out.old moved.old written.old in
+        (result ≡ face.reply) × (moved.new ≡ face.moved) × (written.new ≡ face.written) × (out.new ≡ face.out) }
 {
     let s = values::shift_stored_value(key, value, GainSteps(steps));
     if !s.moved {
+        *moved = 0;
         *written = 0;
-        return false;
+        return 0;
     }
-    *written = put_text(s.text, text);
-    true
+    let reply = put_text(s.text, out, written);
+    if reply == 0 {
+        *moved = 1;
+    }
+    reply
 }

@@ -202,15 +202,17 @@ new_items file left right l = levelled_items l (items_of file) (adjusted l.mode 
 -- the tests before the new file is measured, refusals 1, 2, 7, 8, 14, 9, 11; `gains` says whether there are left gains
 abbrev pub level_checks : List ℕ → Bool → Level → List Test
 level_checks file gains l =
+    let ts = items_of file in
     lent_fits file ∷ need StepOutOfRange (steps_fit l) ∷ need NoLeftGains gains ∷ need NotEditable (passes_gate file)
-    ∷ need SecondUndo (undo_once (items_of file))
-    ∷ need FlagDiffers (found (stored_undo (items_of file)) true (agrees l.mode)) ∷ need UndoOutOfRange (numbers_fit (booked l (items_of file))) ∷ []
+    ∷ need SecondUndo (undo_once ts) ∷ need FlagDiffers (found (stored_undo ts) true (λ s. agrees l.mode s)) ∷ need UndoOutOfRange (numbers_fit (booked l ts)) ∷ []
 
--- then refusals 6, 5
+-- refusals 1, 2, 7, 8, 14, 9, 11, 6, 5
 abbrev pub level_tests : List ℕ → List ℕ → List ℕ → Level → ℕ → List Test
 level_tests file left right l room =
-    level_checks file (is_there left) l
-    ++ (need TagTooLarge (tag_fits (new_items file left right l)) ∷ room_for room (replaced file (new_items file left right l)) ∷ [])
+    lent_fits file ∷ need StepOutOfRange (steps_fit l) ∷ need NoLeftGains (is_there left) ∷ need NotEditable (passes_gate file)
+    ∷ need SecondUndo (undo_once (items_of file))
+    ∷ need FlagDiffers (found (stored_undo (items_of file)) true (agrees l.mode)) ∷ need UndoOutOfRange (numbers_fit (booked l (items_of file)))
+    ∷ need TagTooLarge (tag_fits (new_items file left right l)) ∷ room_for room (replaced file (new_items file left right l)) ∷ []
 
 -- every gain adjusted, and the file with these items
 abbrev pub level_gives : List ℕ → List ℕ → List ℕ → Level → Levelled
@@ -250,12 +252,15 @@ undone_right text gs = adjusted (mode_of (undo_wraps text)) (parse_undo text).ri
 -- the tests before the new file is measured, refusals 1, 7, 8, 14, 10
 abbrev pub undo_checks : List ℕ → Bool → List Test
 undo_checks file gains =
-    lent_fits file ∷ need NoLeftGains gains ∷ need NotEditable (passes_gate file) ∷ need SecondUndo (undo_once (items_of file))
-    ∷ need NoUndo (is_some (stored_undo (items_of file))) ∷ []
+    let ts = items_of file in
+    lent_fits file ∷ need NoLeftGains gains ∷ need NotEditable (passes_gate file) ∷ need SecondUndo (undo_once ts) ∷ need NoUndo (is_some (stored_undo ts)) ∷ []
 
--- then refusal 5
+-- refusals 1, 7, 8, 14, 10, 5
 abbrev pub undo_tests : List ℕ → List ℕ → ℕ → List Test
-undo_tests file left room = undo_checks file (is_there left) ++ (room_for room (replaced file (others (items_of file))) ∷ [])
+undo_tests file left room =
+    lent_fits file ∷ need NoLeftGains (is_there left) ∷ need NotEditable (passes_gate file) ∷ need SecondUndo (undo_once (items_of file))
+    ∷ need NoUndo (is_some (stored_undo (items_of file)))
+    ∷ room_for room (replaced file (others (items_of file))) ∷ []
 
 -- every gain adjusted by the stored numbers, and the file without the eight keys: no peak item is left
 abbrev pub undo_gives : List ℕ → List ℕ → List ℕ → Levelled

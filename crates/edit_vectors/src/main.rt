@@ -7,6 +7,7 @@ use frame::{GainMode, GainSteps};
 use gate::Editable;
 use level::LevelAnswer;
 use replies::Refusal;
+use std::io;
 use vectors::Replay;
 use words::is_hex;
 
@@ -321,8 +322,8 @@ fn replay(text: &[u8]) -> Replay {
     r
 }
 
-fn main() {
+fn main(rt: HostRuntime) -> io::Result<()> {
     let mut text = vectors::buffer();
-    let n = io::read_full(0, &mut text);
-    vectors::report(b"edit", replay(&text[..n]));
+    let n = input::read_full(&rt, &mut text)?;
+    vectors::report(&rt, b"edit", replay(&text[..n]))
 }

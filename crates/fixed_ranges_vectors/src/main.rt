@@ -2,6 +2,7 @@
 #![tactic(auto)]
 
 use fixed_ranges::{FixedField, Views};
+use std::io;
 use vectors::Replay;
 
 // `fixed TEXT FIRST SECOND`, or `fixed TEXT none`.
@@ -59,8 +60,8 @@ fn replay(text: &[u8]) -> Replay {
     r
 }
 
-fn main() {
+fn main(rt: HostRuntime) -> io::Result<()> {
     let mut text = vectors::buffer();
-    let n = io::read_full(0, &mut text);
-    vectors::report(b"fixed_ranges", replay(&text[..n]));
+    let n = input::read_full(&rt, &mut text)?;
+    vectors::report(&rt, b"fixed_ranges", replay(&text[..n]))
 }

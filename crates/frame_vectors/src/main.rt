@@ -2,6 +2,7 @@
 #![tactic(auto)]
 
 use frame::{GainMode, GainSteps, TagStart};
+use std::io;
 use vectors::Replay;
 
 // `gains FLAG STEPS DIGEST`: the digest of what each of the 256 gains becomes.
@@ -158,8 +159,8 @@ fn replay(text: &[u8]) -> Replay {
     r
 }
 
-fn main() {
+fn main(rt: HostRuntime) -> io::Result<()> {
     let mut text = vectors::buffer();
-    let n = io::read_full(0, &mut text);
-    vectors::report(b"frame", replay(&text[..n]));
+    let n = input::read_full(&rt, &mut text)?;
+    vectors::report(&rt, b"frame", replay(&text[..n]))
 }

@@ -6,6 +6,7 @@
 use area_edit::Edited;
 use area_values::UndoGain;
 use keys::Which;
+use std::io;
 use vectors::Replay;
 use words::is_hex;
 
@@ -317,8 +318,8 @@ fn replay(text: &[u8]) -> Replay {
     r
 }
 
-fn main() {
+fn main(rt: HostRuntime) -> io::Result<()> {
     let mut text = vectors::buffer();
-    let n = io::read_full(0, &mut text);
-    vectors::report(b"items", replay(&text[..n]));
+    let n = input::read_full(&rt, &mut text)?;
+    vectors::report(&rt, b"items", replay(&text[..n]))
 }

@@ -9,7 +9,7 @@ use lib.ListN.{length, get_or}
 use Rattle.lists.specs.Bytes.{ascii, starts_with, Small}
 use Rattle.layer3.specs.Fields.{Field, read_left, read_right, write_fields, moved_by, Before}
 use Rattle.layer3.specs.Walk.{walk_start, walk, frames_in, fields_of, fields_in, left_gains, right_gains, with_gains}
-use Rattle.layer3.proofs.Fields.{AllSmall, Outside, Spread, more, outside-before, length-gains, gains-other, small-gains, left_back, right-back, gains-same, gains-twice, moved-gains}
+use Rattle.layer3.proofs.Fields.{byte_of, AllSmall, Outside, Spread, more, outside-before, length-gains, gains-other, small-gains, left_back, right-back, gains-same, gains-twice, moved-gains}
 use Rattle.layer3.proofs.Walk.{walk-spread, Alike, walk-alike}
 
 -- ---- where the walk begins
@@ -94,7 +94,7 @@ audio-moved f g s = moved-gains f g (fields_in s) s (fields_within s)
 before-outside : {k e : ℕ} (m i : ℕ) (fs : List Field) → Spread k e fs → Before m fs → m ≤ i → Outside i fs
 unfolding Before
 before-outside m i [] p q h = tt
-before-outside m i (f ∷ fs) (more a b c p) (x, q) h = (inr (omega arith), before-outside m i fs p q h)
+before-outside {k = k} m i (f ∷ fs) (more a b c p) (x, q) h = (inr (omega arith), before-outside {k = byte_of f + 2} m i fs p q h)
 
 -- behind the last field nothing changes
 pub end_kept : (s ls rs : List ℕ) (m i : ℕ) → Before m (fields_in s) → m ≤ i → get_or (with_gains s ls rs) i 0 ≡ get_or s i 0

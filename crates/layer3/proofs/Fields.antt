@@ -47,21 +47,21 @@ spread-from {k} {j} {e} (f ∷ fs) h (more a b c p) = more {k = j} {f = f} (omeg
 
 pub spread-to : {k e d : ℕ} (fs : List Field) → e ≤ d → Spread k e fs → Spread k d fs
 spread-to [] h p = none
-spread-to {k} {e} {d} (f ∷ fs) h (more a b c p) = more {e = d} {f = f} a (omega arith) c (spread-to fs h p)
+spread-to {k} {e} {d} (f ∷ fs) h (more a b c p) = more {e = d} {f = f} a (omega arith) c (spread-to {k = byte_of f + 2} fs h p)
 
 -- one list behind another
 pub spread-append : {k m e : ℕ} (fs gs : List Field) → k ≤ m → m ≤ e → Spread k m fs → Spread m e gs → Spread k e (fs ++ gs)
 spread-append [] gs h l p q = spread-from gs h q
-spread-append {k} {m} {e} (f ∷ fs) gs h l (more a b c p) q = more {e = e} {f = f} a (omega arith) c (spread-append fs gs b l p q)
+spread-append {k} {m} {e} (f ∷ fs) gs h l (more a b c p) q = more {e = e} {f = f} a (omega arith) c (spread-append {k = byte_of f + 2} fs gs b l p q)
 
 -- bytes before all of them, and behind
 pub outside-before : {k e : ℕ} (i : ℕ) (fs : List Field) → i < k → Spread k e fs → Outside i fs
 outside-before i [] h p = tt
-outside-before i (f ∷ fs) h (more a b c p) = (inl (omega arith), outside-before i fs (omega arith) p)
+outside-before {k = k} i (f ∷ fs) h (more a b c p) = (inl (omega arith), outside-before {k = byte_of f + 2} i fs (omega arith) p)
 
 pub outside_behind : {k e : ℕ} (i : ℕ) (fs : List Field) → e ≤ i → Spread k e fs → Outside i fs
 outside_behind i [] h p = tt
-outside_behind i (f ∷ fs) h (more a b c p) = (inr (omega arith), outside_behind i fs h p)
+outside_behind {k = k} i (f ∷ fs) h (more a b c p) = (inr (omega arith), outside_behind {k = byte_of f + 2} i fs h p)
 
 pub outside-append : (i : ℕ) (fs gs : List Field) → Outside i fs → Outside i gs → Outside i (fs ++ gs)
 outside-append i [] gs p q = q
@@ -159,31 +159,31 @@ pub left_back : {k e : ℕ} (fs : List Field) (ls rs s : List ℕ) → Spread k 
 unfolding read_left write_fields
 left_back [] [] rs s p h a l = refl
 left_back [] (g ∷ ls) rs s p h a l = absurd (omega arith)
-left_back (left o ∷ fs) [] rs s p h a l = absurd (omega arith)
+left_back {k = k} (left o ∷ fs) [] rs s p h a l = absurd (omega arith)
 left_back {k} {e} (left o ∷ fs) (g ∷ ls) rs s (more x y z p) h (b, a) l =
     let t = write_bits s o g in
     let one : read_bits (write_fields fs ls rs t) o ≡ g = read-gains o e fs ls rs t p ∙ read-written s o g (omega arith) b in
-    let rest : read_left fs (write_fields fs ls rs t) ≡ ls = left_back fs ls rs t p (omega (arith, length-write s o g)) a (suc_inj l ∙ length-left fs s t) in
+    let rest : read_left fs (write_fields fs ls rs t) ≡ ls = left_back {k = o / 8 + 2} fs ls rs t p (omega (arith, length-write s o g)) a (suc_inj l ∙ length-left fs s t) in
     rw (one, rest)
-left_back (right o ∷ fs) ls [] s (more x y z p) h a l = left_back fs ls [] s p h a l
-left_back (right o ∷ fs) ls (g ∷ rs) s (more x y z p) h a l =
+left_back {k = k} (right o ∷ fs) ls [] s (more x y z p) h a l = left_back {k = o / 8 + 2} fs ls [] s p h a l
+left_back {k = k} (right o ∷ fs) ls (g ∷ rs) s (more x y z p) h a l =
     let t = write_bits s o g in
-    left_back fs ls rs t p (omega (arith, length-write s o g)) a (l ∙ length-left fs s t)
+    left_back {k = o / 8 + 2} fs ls rs t p (omega (arith, length-write s o g)) a (l ∙ length-left fs s t)
 
 pub right-back : {k e : ℕ} (fs : List Field) (ls rs s : List ℕ) → Spread k e fs → e ≤ length s → AllSmall rs → length rs ≡ length (read_right fs s)
     → read_right fs (write_fields fs ls rs s) ≡ rs
 unfolding read_right write_fields
 right-back [] ls [] s p h a l = refl
 right-back [] ls (g ∷ rs) s p h a l = absurd (omega arith)
-right-back (left o ∷ fs) [] rs s (more x y z p) h a l = right-back fs [] rs s p h a l
-right-back (left o ∷ fs) (g ∷ ls) rs s (more x y z p) h a l =
+right-back {k = k} (left o ∷ fs) [] rs s (more x y z p) h a l = right-back {k = o / 8 + 2} fs [] rs s p h a l
+right-back {k = k} (left o ∷ fs) (g ∷ ls) rs s (more x y z p) h a l =
     let t = write_bits s o g in
-    right-back fs ls rs t p (omega (arith, length-write s o g)) a (l ∙ length-right fs s t)
-right-back (right o ∷ fs) ls [] s p h a l = absurd (omega arith)
+    right-back {k = o / 8 + 2} fs ls rs t p (omega (arith, length-write s o g)) a (l ∙ length-right fs s t)
+right-back {k = k} (right o ∷ fs) ls [] s p h a l = absurd (omega arith)
 right-back {k} {e} (right o ∷ fs) ls (g ∷ rs) s (more x y z p) h (b, a) l =
     let t = write_bits s o g in
     let one : read_bits (write_fields fs ls rs t) o ≡ g = read-gains o e fs ls rs t p ∙ read-written s o g (omega arith) b in
-    let rest : read_right fs (write_fields fs ls rs t) ≡ rs = right-back fs ls rs t p (omega (arith, length-write s o g)) a (suc_inj l ∙ length-right fs s t) in
+    let rest : read_right fs (write_fields fs ls rs t) ≡ rs = right-back {k = o / 8 + 2} fs ls rs t p (omega (arith, length-write s o g)) a (suc_inj l ∙ length-right fs s t) in
     rw (one, rest)
 
 -- the gains that stand there change nothing
@@ -203,20 +203,20 @@ gains-twice (left o ∷ fs) ls rs [] ns s p h a b l m = absurd (omega arith)
 gains-twice {k} {e} (left o ∷ fs) [] rs (u ∷ ms) ns s (more x y z p) h a b l m =
     let t = write_bits s o u in
     ap (write_fields fs ms ns) (write-gains o e fs [] rs s u p)
-    ∙ gains-twice fs [] rs ms ns t p (omega (arith, length-write s o u)) a b (suc_inj l ∙ length-left fs s t) (m ∙ length-right fs s t)
+    ∙ gains-twice {k = o / 8 + 2} fs [] rs ms ns t p (omega (arith, length-write s o u)) a b (suc_inj l ∙ length-left fs s t) (m ∙ length-right fs s t)
 gains-twice {k} {e} (left o ∷ fs) (g ∷ ls) rs (u ∷ ms) ns s (more x y z p) h (i, a) b l m =
     let t = write_bits s o u in
     ap (write_fields fs ms ns) (write-gains o e fs ls rs (write_bits s o g) u p ∙ ap (write_fields fs ls rs) (write-twice s o g u (omega arith) i))
-    ∙ gains-twice fs ls rs ms ns t p (omega (arith, length-write s o u)) a b (suc_inj l ∙ length-left fs s t) (m ∙ length-right fs s t)
+    ∙ gains-twice {k = o / 8 + 2} fs ls rs ms ns t p (omega (arith, length-write s o u)) a b (suc_inj l ∙ length-left fs s t) (m ∙ length-right fs s t)
 gains-twice (right o ∷ fs) ls rs ms [] s p h a b l m = absurd (omega arith)
 gains-twice {k} {e} (right o ∷ fs) ls [] ms (u ∷ ns) s (more x y z p) h a b l m =
     let t = write_bits s o u in
     ap (write_fields fs ms ns) (write-gains o e fs ls [] s u p)
-    ∙ gains-twice fs ls [] ms ns t p (omega (arith, length-write s o u)) a b (l ∙ length-left fs s t) (suc_inj m ∙ length-right fs s t)
+    ∙ gains-twice {k = o / 8 + 2} fs ls [] ms ns t p (omega (arith, length-write s o u)) a b (l ∙ length-left fs s t) (suc_inj m ∙ length-right fs s t)
 gains-twice {k} {e} (right o ∷ fs) ls (g ∷ rs) ms (u ∷ ns) s (more x y z p) h a (i, b) l m =
     let t = write_bits s o u in
     ap (write_fields fs ms ns) (write-gains o e fs ls rs (write_bits s o g) u p ∙ ap (write_fields fs ls rs) (write-twice s o g u (omega arith) i))
-    ∙ gains-twice fs ls rs ms ns t p (omega (arith, length-write s o u)) a b (l ∙ length-left fs s t) (suc_inj m ∙ length-right fs s t)
+    ∙ gains-twice {k = o / 8 + 2} fs ls rs ms ns t p (omega (arith, length-write s o u)) a b (l ∙ length-left fs s t) (suc_inj m ∙ length-right fs s t)
 
 -- ---- every gain moved where it stands
 
@@ -226,10 +226,10 @@ unfolding moved_by read_left read_right write_fields
 moved-gains f g [] s p = refl
 moved-gains {k} {e} f g (left o ∷ fs) s (more x y z p) =
     let v = f (read_bits s o) in
-    moved-gains f g fs (write_bits s o v) p ∙ rw (left-write o e fs s v p, right-write o e fs s v p)
+    moved-gains {k = o / 8 + 2} f g fs (write_bits s o v) p ∙ rw (left-write o e fs s v p, right-write o e fs s v p)
 moved-gains {k} {e} f g (right o ∷ fs) s (more x y z p) =
     let v = g (read_bits s o) in
-    moved-gains f g fs (write_bits s o v) p ∙ rw (left-write o e fs s v p, right-write o e fs s v p)
+    moved-gains {k = o / 8 + 2} f g fs (write_bits s o v) p ∙ rw (left-write o e fs s v p, right-write o e fs s v p)
 
 -- ---- two lists of fields, one after the other
 

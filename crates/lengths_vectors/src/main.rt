@@ -3,6 +3,7 @@
 
 use frame::{GainMode, GainSteps};
 use lengths::NewLength;
+use std::io;
 use vectors::Replay;
 
 // Whether an answer is that of the two words from this place: `0` and the length, or the number of a refusal and `0`.
@@ -128,8 +129,8 @@ fn replay(text: &[u8]) -> Replay {
     r
 }
 
-fn main() {
+fn main(rt: HostRuntime) -> io::Result<()> {
     let mut text = vectors::buffer();
-    let n = io::read_full(0, &mut text);
-    vectors::report(b"lengths", replay(&text[..n]));
+    let n = input::read_full(&rt, &mut text)?;
+    vectors::report(&rt, b"lengths", replay(&text[..n]))
 }

@@ -1,22 +1,24 @@
 // Level: every gain moved, and the file with the items that say so.
 #![tactic(auto)]
 
-ghost use Rattle.std.specs.Prelude.{◌≡◌, true, ◌≤◌, ◌+◌, ◌-◌, ◌*◌, length};
+ghost use Rattle.std.specs.Prelude.{◌≡◌, true, cond, ◌≤◌, ◌+◌, ◌-◌, ◌*◌, length};
 ghost use Rattle.lists.specs.Choice.{is_some};
 ghost use Rattle.lists.specs.Write.{over};
 ghost use Rattle.replies.specs.Limits.{count_limit, area_limit};
 ghost use Rattle.items.specs.Items.{parse, items_in};
+ghost use Rattle.items.specs.Answers.{is_there, value_of};
 ghost use Rattle.ape_write.specs.Answers.{written_bytes};
 ghost use Rattle.calls.specs.Gate.{items_of};
-ghost use Rattle.calls.specs.Calls.{Level, booked, peaks_kept, level_plan};
+ghost use Rattle.calls.specs.Calls.{Level, agrees, is_undo_number, booked, peaks_kept, level_plan};
 ghost use Rattle.gate.specs.Gate.{Passed};
 ghost use Rattle.edit.specs.Finish.{tag_plan};
 ghost use Rattle.level_items.specs.Items.{ranged_items};
-ghost use Rattle.level.specs.Answers.{level_answer, level_bytes, left_after, right_after, last_plan, filed_answer};
+ghost use Rattle.level.specs.Answers.{level_answer, level_bytes, left_after, right_after, booked_plan, booked_answer, last_plan, filed_answer};
 
 use ape_write::Written;
-use checks::LevelCheck;
 use frame::{GainMode, GainSteps};
+use gate::Editable;
+use items::Found;
 use replies::Refusal;
 use values::{Range, UndoValues};
 
@@ -27,6 +29,68 @@ const SCRATCH: usize = replies::AREA_LIMIT + 32 * replies::COUNT_LIMIT + 76;
 pub enum LevelAnswer {
     Done { length: usize, peaks: usize },
     Refused(Refusal),
+}
+
+// The undo numbers that level stores.
+#[derive(Clone, Copy)]
+pub enum Booked {
+    Numbers(UndoValues),
+    Refused(Refusal),
+}
+
+// Whether a stored undo text, if there is one, has the flag of the call.
+fn flag_fits(area: &[u8], f: Found, mode: GainMode) -> bool
+    ensures { result ≡ cond (is_there f) (agrees mode (value_of area.now f)) true }
+{
+    let Found::Value {
+        start: _,
+        length: _,
+        repeated: _,
+    } = f
+    else {
+        return true;
+    };
+    let wraps = values::parse_undo_wrap(items::value(area, f));
+    match mode {
+        GainMode::Saturating => !wraps,
+        GainMode::Wrapping => wraps,
+    }
+}
+
+// Whether a number lies in -32,768..32,767.
+fn is_undo_number(n: i32) -> bool
+    ensures { result ≡ is_undo_number n }
+{
+    let a = integers::take_apart(n);
+    a.by < 32768
+}
+
+// The undo numbers that level stores in a well-formed area: refusals 14, 9 and 11.
+fn book_undo(
+    area: &[u8],
+    count: usize,
+    left_steps: GainSteps,
+    right_steps: GainSteps,
+    mode: GainMode,
+) -> Booked
+    requires { is_some (parse count area.now) ≡ true }
+    ensures { result ≡ booked_answer (booked_plan (record { left = left_steps.0; right = right_steps.0; mode = mode }) (items_in count area.now)) }
+{
+    let f = items::find(area, count, &keys::TAG_MP3GAIN_UNDO);
+    if items::is_repeated(f) {
+        return Booked::Refused(Refusal::SecondUndo);
+    }
+    if !flag_fits(area, f, mode) {
+        return Booked::Refused(Refusal::FlagDiffers);
+    }
+    let u = values::accumulate_undo(items::value(area, f), left_steps, right_steps);
+    if !is_undo_number(u.left) {
+        return Booked::Refused(Refusal::UndoOutOfRange);
+    }
+    if !is_undo_number(u.right) {
+        return Booked::Refused(Refusal::UndoOutOfRange);
+    }
+    Booked::Numbers(u)
 }
 
 // The file with the items of a well-formed area, answered with a count of peaks: refusals 6 and 5.
@@ -143,7 +207,7 @@ pub fn write_file(
 }
 
 // Level with these undo numbers in a file that is fit for editing. The gains move last.
-fn level_ready(
+fn level_booked(
     file: &[u8],
     start: usize,
     end: usize,
@@ -204,14 +268,25 @@ pub fn level(
         (result ≡ level_answer plan) × (out.new ≡ over (level_bytes plan) out.old)
         × (left.exit.now ≡ left_after plan left.entry.now) × (right.new ≡ right_after plan right.old)) }
 {
-    let c = checks::check_level(file, 0 < left.len(), left_steps, right_steps, mode);
-    match c {
-        LevelCheck::Ready {
-            start,
-            end,
-            count,
-            undo,
-        } => level_ready(
+    if replies::FILE_LIMIT < file.len() {
+        return LevelAnswer::Refused(Refusal::FileTooLong);
+    }
+    if !slip::is_step(left_steps.0) {
+        return LevelAnswer::Refused(Refusal::StepOutOfRange);
+    }
+    if !slip::is_step(right_steps.0) {
+        return LevelAnswer::Refused(Refusal::StepOutOfRange);
+    }
+    if left.len() == 0 {
+        return LevelAnswer::Refused(Refusal::NoLeftGains);
+    }
+    let g = gate::gate(file);
+    let Editable::Items { start, end, count } = g else {
+        return LevelAnswer::Refused(Refusal::NotEditable);
+    };
+    let b = book_undo(&file[start..end], count, left_steps, right_steps, mode);
+    match b {
+        Booked::Numbers(undo) => level_booked(
             file,
             start,
             end,
@@ -224,6 +299,6 @@ pub fn level(
             undo,
             out,
         ),
-        LevelCheck::Refused(r) => LevelAnswer::Refused(r),
+        Booked::Refused(r) => LevelAnswer::Refused(r),
     }
 }

@@ -1,6 +1,8 @@
 // Lists the tag of the file on standard input.
 #![tactic(auto)]
 
-fn main() {
-    listing_input::list_input();
+use std::io;
+
+fn main(rt: HostRuntime) -> io::Result<()> {
+    listing_input::list_input(&rt)
 }

@@ -1,6 +1,7 @@
 // Replays recorded listings, each a line of a file and its text.
 #![tactic(auto)]
 
+use std::io;
 use vectors::Replay;
 
 // Whether the file of the line at this place lists as its text.
@@ -20,8 +21,8 @@ fn replay(text: &[u8]) -> Replay {
     r
 }
 
-fn main() {
+fn main(rt: HostRuntime) -> io::Result<()> {
     let mut text = vectors::buffer();
-    let n = io::read_full(0, &mut text);
-    vectors::report(b"listing", replay(&text[..n]));
+    let n = input::read_full(&rt, &mut text)?;
+    vectors::report(&rt, b"listing", replay(&text[..n]))
 }

@@ -108,7 +108,7 @@ pub fair : (l : Level) (ts : List Item) → found (stored_undo ts) true (agrees 
 fair l ts a t =
     let o = undo_in ts in
     let (x, y) = both (is_undo_number (accumulate on_left o l)) (is_undo_number (accumulate on_right o l)) (rw (booked-is l ts) at t) in
-    record { agreed = agrees-is l.mode ts a; exact = λ side. elim side [ on_left ↦ exact-on on_left o l x | on_right ↦ exact-on on_right o l y ] }
+    record { agreed = agrees-is l.mode ts a; exact = λ side. elim side as (λ one. accumulate one o l ≡ number one o -ℤ step_on one l) [ on_left ↦ exact-on on_left o l x | on_right ↦ exact-on on_right o l y ] }
 
 -- ---- the accepted calls in a row
 
@@ -199,7 +199,7 @@ pub record Reversed (d₀ d : Desk) (acc : List Level) : Type 0 where
 undone-back : (side : Side) (u : Undo) (m : GainMode) (ss : List ℤ) (gs hs : List ℕ) →
     u.mode ≡ m → number side (some u) ≡ neg_ℤ (sum ss) → hs ≡ after_all m ss gs → undone_by side u hs ≡ back_all m ss gs
 unfolding undone_by back_all
-undone-back side u m ss gs hs e n p = rw (e, n, p)
+undone-back side u m ss gs hs e n p = rw (n, e, p)
 
 pub performed : (d₀ : Desk) (acc : List Level) → d₀.stored ≡ none → Chain d₀.stored acc → ¬ (acc ≡ []) → Reversed d₀ (perform d₀ acc) acc
 unfolding AllOf booked_by

@@ -4,7 +4,7 @@ use native.Mathlib.Omega.{arith}
 use mathlib.Core.Path.{◌≡◌, refl, sym, ap, ◌∙◌}
 use mathlib.Core.List.{[], ◌∷◌}
 use lib.ListN.{length}
-use Rattle.lists.specs.Bytes.{ascii, all, same, starts_with, place_of}
+use Rattle.lists.specs.Bytes.{ascii, all, same, starts_with, place_of, Small}
 use Rattle.keys.specs.Keys.{upper, upper_all, same_key, which_of, keys, which_key, is_from, undo_key, minmax_key, is_reserved, is_key}
 use Rattle.number.specs.Fields.{before, behind, field}
 use Rattle.number.specs.Reading.{is_digit, digits_from, natural, is_minus, unsigned, whole, i32, u8}
@@ -24,7 +24,7 @@ use Rattle.calls.specs.Gate.{header_at, fit, item_valid, all_valid, gate_items, 
 use Rattle.calls.specs.Calls.{set_plan, remove_plan, staying, shift_item, shift_stored_gain, stored_undo, booked, least, greatest, shifted_items, levelled_items, is_peak_key, level_plan}
 use Rattle.calls.specs.Figures.{flagged, item, fives}
 use Rattle.book.specs.Book.{settled, book_of, book_file}
-use Rattle.reversal.specs.Run.{set, remove, on_left, on_right, edit_plan, feed, fed, book_after, outcome, accepts, next, run, accepted_levels, accepted_edits}
+use Rattle.reversal.specs.Run.{set, remove, on_left, on_right, gains_on, edit_plan, feed, fed, book_after, outcome, accepts, next, run, accepted_levels, accepted_edits}
 use Rattle.reversal.specs.Demand.{Apart, Given, Restored, Demand3}
 use Rattle.reversal.specs.Sample.{start, apart_by, calls}
 use Rattle.reversal.proofs.Demand.{demand3}
@@ -51,7 +51,7 @@ unfolding start calls settled count_of Apart all same starts_with place_of upper
 given = record {
   settled-file = refl;
   none-of-eight = refl;
-  bytes = λ side. elim side [ on_left ↦ small_all (10 ∷ 0 ∷ 252 ∷ []) refl | on_right ↦ small_all (7 ∷ []) refl ];
+  bytes = λ side. elim side as (λ one. Small (gains_on one start)) [ on_left ↦ small_all (10 ∷ 0 ∷ 252 ∷ []) refl | on_right ↦ small_all (7 ∷ []) refl ];
   apart = (refl, (refl, (refl, (refl, tt))));
   some_level = some_level;
   long = omega (arith, ran.long);

@@ -242,7 +242,7 @@ module _ (file : List ℕ) (as' : List Asked) (room : ℕ) (given : Given file a
   lists-given = record {
     settled-file = given.settled-file;
     none-of-eight = given.none-of-eight;
-    bytes = λ side. elim side [
+    bytes = λ side. elim side as (λ one. Small (gains_on one start)) [
       | on_left ↦ all-bytes (sound_left file) (small-left (fields_in (audio_of file)) (audio_of file))
       | on_right ↦ all-bytes (sound_right file) (small-right (fields_in (audio_of file)) (audio_of file))
     ];

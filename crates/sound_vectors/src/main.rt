@@ -2,6 +2,7 @@
 #![tactic(auto)]
 
 use sound_read::GainsRead;
+use std::io;
 use vectors::Replay;
 use words::is_hex;
 
@@ -54,8 +55,8 @@ fn replay(text: &[u8]) -> Replay {
     r
 }
 
-fn main() {
+fn main(rt: HostRuntime) -> io::Result<()> {
     let mut text = vectors::buffer();
-    let n = io::read_full(0, &mut text);
-    vectors::report(b"sound", replay(&text[..n]));
+    let n = input::read_full(&rt, &mut text)?;
+    vectors::report(&rt, b"sound", replay(&text[..n]))
 }

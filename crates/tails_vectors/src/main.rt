@@ -2,6 +2,7 @@
 #![tactic(auto)]
 
 use ape::TagRead;
+use std::io;
 use tail_read::Needs;
 use tail_write::Rewritten;
 use vectors::Replay;
@@ -130,8 +131,8 @@ fn replay(text: &[u8]) -> Replay {
     r
 }
 
-fn main() {
+fn main(rt: HostRuntime) -> io::Result<()> {
     let mut text = vectors::buffer();
-    let n = io::read_full(0, &mut text);
-    vectors::report(b"tails", replay(&text[..n]));
+    let n = input::read_full(&rt, &mut text)?;
+    vectors::report(&rt, b"tails", replay(&text[..n]))
 }

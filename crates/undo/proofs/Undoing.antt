@@ -1,17 +1,20 @@
--- Laws of undo where its check is ready.
-use Prim.Native.Nat.{ℕ, ◌≤◌}
+-- Laws of undo: each refusal by the tests before it, and what is left when all of those hold.
+use Prim.Native.Nat.{ℕ, ◌≤◌, ◌<◌}
 use native.Mathlib.Omega.{arith}
-use mathlib.Core.Path.{◌≡◌, refl, ap, ◌∙◌}
+use mathlib.Core.Path.{◌≡◌, refl, sym, ap, ◌∙◌}
+use mathlib.Core.Logic.{⊎_elim}
 use mathlib.Core.Bool.{Bool, true, false}
+use mathlib.Core.Option.{none, some}
 use mathlib.Core.List.{List, []}
 use lib.ListN.{length}
-use Rattle.lists.specs.Write.{part, over}
+use borrow.Author.Tests.{le-leb, lt-leb}
+use Rattle.lists.specs.Write.{part}
 use Rattle.replies.specs.Limits.{count_limit}
 use Rattle.replies.specs.Refusal.{no, yes}
 use Rattle.replies.specs.declared.Refusal.{Refusal}
-use Rattle.replies.specs.declared.Refusal.TheVariants.{NoRoom}
-use Rattle.keys.specs.Keys.{is_mp3gain_key}
-use Rattle.items.specs.Items.{without}
+use Rattle.replies.specs.declared.Refusal.TheVariants.{FileTooLong, NoLeftGains, NotEditable, NoUndo, NoRoom, SecondUndo}
+use Rattle.keys.specs.Keys.{is_mp3gain_key, undo_key}
+use Rattle.items.specs.Items.{without, is_repeated}
 use Rattle.items.proofs.Area.{count-items}
 use Rattle.items.proofs.ItemLaws.{count-without, area-without}
 use Rattle.ape.specs.Tag.{replaced}
@@ -24,15 +27,52 @@ use Rattle.gate.specs.Gate.{Passed}
 use Rattle.gate.proofs.Gates.{short-items}
 use Rattle.edit.specs.Finish.{tag_plan}
 use Rattle.edit.proofs.Rewriting.{fits-tag}
-use Rattle.calls.specs.Gate.{items_of}
-use Rattle.values.specs.Undo.{parse_undo, undo_wraps}
-use Rattle.frame.specs.Gain.{mode_of}
-use Rattle.checks.specs.Checks.{undo_check}
-use Rattle.checks.proofs.Whole.{undo-last}
-use Rattle.level.specs.declared.LevelAnswer.{LevelAnswer}
-use Rattle.level.specs.Answers.{level_answer, level_bytes, left_after, right_after}
-use Rattle.undo.specs.Last.{last_undo}
-use Rattle.calls.specs.Calls.{Level, adjusted, is_there, others, undo_plan}
+use Rattle.calls.specs.Gate.{passes_gate, items_of}
+use lib.IntN.{ℤ}
+use Rattle.undo.proofs.Stored.{Unstored}
+use Rattle.frame.specs.declared.GainMode.{GainMode}
+use Rattle.calls.specs.Calls.{Levelled, adjusted, is_there, stored_undo, others, undone_left, undone_right, undo_plan}
+
+-- what undo gives with a stored text
+abbrev pub undone : List ℕ → List ℕ → List ℕ → List ℕ → Levelled
+undone file left right text =
+    record { out = replaced file (others (items_of file)); left = undone_left text left; right = undone_right text right; peaks = 0 }
+
+module _ (file left right : List ℕ) (room : ℕ) where
+  pub undo-1 : 16777216 < length file → undo_plan file left right room ≡ no FileTooLong
+  unfolding undo_plan
+  undo-1 h = rw (lt-leb _ _ h)
+
+  module _ (l : length file ≤ 16777216) where
+    pub undo-7 : is_there left ≡ false → undo_plan file left right room ≡ no NoLeftGains
+    unfolding undo_plan
+    undo-7 e = rw (le-leb _ _ l, e)
+
+    module _ (g : is_there left ≡ true) where
+      pub undo-8 : passes_gate file ≡ false → undo_plan file left right room ≡ no NotEditable
+      unfolding undo_plan
+      undo-8 e = rw (le-leb _ _ l, g, e)
+
+      module _ (p : passes_gate file ≡ true) where
+        undo-14 : is_repeated undo_key (items_of file) ≡ true → undo_plan file left right room ≡ no SecondUndo
+        unfolding undo_plan
+        undo-14 e = rw (le-leb _ _ l, g, p, e)
+
+        undo-10 : is_repeated undo_key (items_of file) ≡ false → stored_undo (items_of file) ≡ none → undo_plan file left right room ≡ no NoUndo
+        unfolding undo_plan
+        undo-10 o e = rw (le-leb _ _ l, g, p, o, e)
+
+        pub undo-none : {r : Refusal} → Unstored (items_of file) r → undo_plan file left right room ≡ no r
+        undo-none {r} x = ⊎_elim (λ y. undo-14 y.1 ∙ ap no (sym y.0)) (λ y. undo-10 y.1 y.2 ∙ ap no (sym y.0)) x.why
+
+        module _ (o : is_repeated undo_key (items_of file) ≡ false) (text : List ℕ) (u : stored_undo (items_of file) ≡ some text) where
+          pub undo-5 : has_room room (length (replaced file (others (items_of file)))) ≡ false → undo_plan file left right room ≡ no NoRoom
+          unfolding undo_plan
+          undo-5 e = rw (le-leb _ _ l, g, p, o, u, e)
+
+          pub undo-done : has_room room (length (replaced file (others (items_of file)))) ≡ true → undo_plan file left right room ≡ yes (undone file left right text)
+          unfolding undo_plan
+          undo-done e = rw (le-leb _ _ l, g, p, o, u, e)
 
 -- what dropping the eight keys answers, where the file is fit for editing: only room can be lacking
 module _ {file : List ℕ} {start end count : ℕ} (p : Passed file start end count) (room : ℕ) where
@@ -73,30 +113,6 @@ module _ {file : List ℕ} {start end count : ℕ} (p : Passed file start end co
           absurd (let z : ◌≡◌ {A = ℕ} 0 1 = cc in omega arith)
       go false q = (q, ap written_bytes dropped ∙ rw q)
 
--- ---- the rest of undo, where its check is ready
-
-module _ (file left right : List ℕ) (l : Level) (room : ℕ) where
-  pub last-5 : has_room room (length (replaced file (others (items_of file)))) ≡ false → last_undo file left right l room ≡ no NoRoom
-  unfolding last_undo
-  last-5 e = rw e
-
-  pub last_done : has_room room (length (replaced file (others (items_of file)))) ≡ true
-      → last_undo file left right l room
-      ≡ yes (record { out = replaced file (others (items_of file)); left = adjusted l.mode l.left left; right = adjusted l.mode l.right right; peaks = 0 })
-  unfolding last_undo
-  last_done e = rw e
-
-  -- the call, by the numbers and the flag of the stored text
-  pub undo-rest : {text : List ℕ} → undo_check file (is_there left) ≡ yes text → l.left ≡ (parse_undo text).left → l.right ≡ (parse_undo text).right → l.mode ≡ mode_of (undo_wraps text)
-      → undo_plan file left right room ≡ last_undo file left right l room
-  unfolding last_undo
-  undo-rest {text} e a b m = undo-last file left right room e ∙ rw (a, b, m)
-
-  -- what the rest gives, of the call
-  pub carried : {r : LevelAnswer} {o ls rs : List ℕ} (out : List ℕ)
-      → (r ≡ level_answer (last_undo file left right l room)) × (o ≡ over (level_bytes (last_undo file left right l room)) out)
-      × (ls ≡ left_after (last_undo file left right l room) left) × (rs ≡ right_after (last_undo file left right l room) right)
-      → undo_plan file left right room ≡ last_undo file left right l room
-      → (r ≡ level_answer (undo_plan file left right room)) × (o ≡ over (level_bytes (undo_plan file left right room)) out)
-      × (ls ≡ left_after (undo_plan file left right room) left) × (rs ≡ right_after (undo_plan file left right room) right)
-  carried out h e = rw e h
+-- gains that were moved by the same number in the same mode
+pub moved-alike : (m n : GainMode) (y z : ℤ) (gs : List ℕ) {xs : List ℕ} → xs ≡ adjusted m y gs → m ≡ n → y ≡ z → xs ≡ adjusted n z gs
+moved-alike m n y z gs e f g = e ∙ rw (f, g)

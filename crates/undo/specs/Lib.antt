@@ -1,1 +1,1 @@
-pub mod Last
+pub mod Stored

@@ -4,6 +4,7 @@
 ghost use Rattle.std.specs.Prelude.{◌≤◌};
 
 use lossy::Converted;
+use std::io;
 use vectors::Replay;
 
 // `utf8 TEXT BOOL`.
@@ -113,8 +114,8 @@ fn replay(text: &[u8]) -> Replay {
     r
 }
 
-fn main() {
+fn main(rt: HostRuntime) -> io::Result<()> {
     let mut text = vectors::buffer();
-    let n = io::read_full(0, &mut text);
-    vectors::report(b"utf8", replay(&text[..n]));
+    let n = input::read_full(&rt, &mut text)?;
+    vectors::report(&rt, b"utf8", replay(&text[..n]))
 }

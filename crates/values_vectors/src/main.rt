@@ -5,6 +5,7 @@
 use decimal::Text;
 use frame::{GainMode, GainSteps};
 use slip::{Slip, SlipMode};
+use std::io;
 use vectors::Replay;
 
 // Whether the word at this place is the hex of the first `len` bytes.
@@ -216,8 +217,8 @@ fn replay(text: &[u8]) -> Replay {
     r
 }
 
-fn main() {
+fn main(rt: HostRuntime) -> io::Result<()> {
     let mut text = vectors::buffer();
-    let n = io::read_full(0, &mut text);
-    vectors::report(b"values", replay(&text[..n]));
+    let n = input::read_full(&rt, &mut text)?;
+    vectors::report(&rt, b"values", replay(&text[..n]))
 }

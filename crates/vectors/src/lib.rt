@@ -6,6 +6,9 @@ ghost use Rattle.lists.specs.Write.{over};
 ghost use Rattle.vectors.specs.Digest.{digest_of};
 ghost use Rattle.vectors.specs.Lines as L;
 
+use std::io;
+use std::io::Write;
+
 // A replay on its way: the place of the next answer, how many were replayed, and how many of them differ.
 #[derive(Clone, Copy)]
 pub struct Replay {
@@ -102,10 +105,11 @@ pub fn line(r: Replay, out: &mut [u8; 40]) -> usize
 }
 
 // Writes what a replay found, in one line.
-pub fn report(name: &[u8], r: Replay) {
+pub fn report(rt: &impl Print, name: &[u8], r: Replay) -> io::Result<()> {
     let mut out = [0u8; 40];
     let n = line(r, &mut out);
-    io::write_all(1, name);
-    io::write_all(1, b": ");
-    io::write_all(1, &out[0..n]);
+    let mut writer = io::writer(rt);
+    writer.write_all(name)?;
+    writer.write_all(b": ")?;
+    writer.write_all(&out[0..n])
 }

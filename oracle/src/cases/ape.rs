@@ -42,6 +42,13 @@ pub mod library {
             from: *mut usize,
             to: *mut usize,
         ) -> u32;
+        fn zib_cut_ape_tag(
+            file: *const u8,
+            length: usize,
+            front: *mut usize,
+            from: *mut usize,
+            to: *mut usize,
+        ) -> u32;
         fn zib_replace_ape_tag(
             file: *const u8,
             length: usize,
@@ -96,14 +103,19 @@ pub mod library {
         done(reply, (front, from, to))
     }
 
-    /// Where the audio before the tag ends, and where what stands behind it starts and ends.
-    pub fn split_ape_tag(file: &[u8]) -> Result<(usize, usize, usize), u32> {
-        cut(zib_split_ape_tag, file)
+    /// Where the audio before the tag ends, and where what stands behind it starts and ends. The published Rust calls it split_ape_tag.
+    pub fn cut_ape_tag(file: &[u8]) -> Result<(usize, usize, usize), u32> {
+        cut(zib_cut_ape_tag, file)
     }
 
     /// The same of the parts that replacement keeps.
     pub fn ape_tag_parts(file: &[u8]) -> Result<(usize, usize, usize), u32> {
         cut(zib_ape_tag_parts, file)
+    }
+
+    /// Those parts by the other name of the same call.
+    pub fn split_ape_tag(file: &[u8]) -> Result<(usize, usize, usize), u32> {
+        cut(zib_split_ape_tag, file)
     }
 
     pub fn replace_ape_tag(file: &[u8], area: &[u8], count: usize, out: &mut [u8]) -> Result<usize, u32> {
@@ -196,6 +208,10 @@ fn published_parts(file: &[u8]) -> Cut {
 
 fn cut((front, from, to): (usize, usize, usize)) -> Cut {
     (front, (from != to).then_some((from, to)))
+}
+
+fn our_cut(file: &[u8]) -> Cut {
+    cut(library::cut_ape_tag(file).unwrap())
 }
 
 fn our_split(file: &[u8]) -> Cut {
@@ -407,8 +423,9 @@ pub fn edge_files() -> Vec<Vec<u8>> {
 pub fn both(c: &mut Compare, file: &[u8], tags: &[ApeTag]) {
     c.bytes("find_ape_footer", file, |s| Ok(find_ape_footer(s)), library::find_ape_footer);
     c.bytes("read_ape_tag", file, published_read, our_read);
-    c.bytes("split_ape_tag", file, published_split, our_split);
+    c.bytes("cut_ape_tag", file, published_split, our_cut);
     c.bytes("ape_tag_parts", file, published_parts, our_parts);
+    c.bytes("split_ape_tag", file, published_parts, our_split);
     frame::ends(c, file);
     // No ID3v1 block fits in less than 128 bytes, so the sound ends where replacement puts the tag.
     assert!(file.len() >= 128 || frame::library::find_audio_end(file) == Ok(our_parts(file).0));
@@ -538,7 +555,7 @@ fn limits(c: &mut Compare) {
     let tag = &small_tags()[1];
     let area = area_of(tag);
     c.inputs += 10;
-    for call in [library::split_ape_tag, library::ape_tag_parts] {
+    for call in [library::split_ape_tag, library::ape_tag_parts, library::cut_ape_tag] {
         assert_eq!(call(&file), Err(1));
         assert_eq!(call(&file[..LIMIT]), Ok((LIMIT, LIMIT, LIMIT)));
     }
@@ -598,7 +615,7 @@ fn record(r: &mut Record) {
     for tag in &tags {
         r.line(&words(&[&"serialize", &tag.len(), &hex(&area_of(tag)), &hex(&reach::serialize(tag))]));
     }
-    // `split FILE FRONT FROM TO FRONT FROM TO`, by split_ape_tag and by ape_tag_parts; `none none` where nothing follows the tag.
+    // `split FILE FRONT FROM TO FRONT FROM TO`, by the published split_ape_tag and by ape_tag_parts; `none none` where nothing follows the tag.
     for file in files.iter().chain(&edge_files()) {
         let three = |(front, rest): Cut| match rest {
             Some((from, to)) => format!("{front} {from} {to}"),
@@ -697,7 +714,8 @@ fn bench(b: &mut Bench) {
                 || library::find_ape_footer(&file),
             );
         }
-        b.row(&format!("split_ape_tag, {name} before a tag"), || split_slices(&file), || library::split_ape_tag(&file));
+        b.row(&format!("split_ape_tag, {name} before a tag"), || part_slices(&file), || library::split_ape_tag(&file));
+        b.row(&format!("cut_ape_tag, {name} before a tag"), || split_slices(&file), || library::cut_ape_tag(&file));
         b.row(&format!("ape_tag_parts, {name} before a tag"), || part_slices(&file), || library::ape_tag_parts(&file));
     }
     let area = area_of(&tag);

@@ -9,7 +9,7 @@ use Rattle.lossy.proofs.Written.{State, begin, fits-run, fits-mark, replaced, fi
 use Rattle.lossy.proofs.lossy_put.Given as goal
 
 abbrev pub invariant-loop-at : goal.invariant-loop-at
-invariant-loop-at l = State l.s l.initial.out l.at l.from l.o o
+invariant-loop-at l = State l.s l.initial.out l.at l.out l.from l.o
 
 abbrev pub decreases-loop-at : goal.decreases-loop-at
-decreases-loop-at l = length l.s - l.o
+decreases-loop-at l = length l.s - l.from

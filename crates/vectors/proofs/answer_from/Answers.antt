@@ -1,6 +1,7 @@
 use Rattle.std.proofs.Common.{◌≡◌, ◌+◌, ◌-◌, false, length, drop, refl, ⊎_elim, arith}
 use Rattle.vectors.specs.Lines.{comments}
 use Rattle.vectors.proofs.Comments.{at-end, within-one, begins, answer}
+use Rattle.vectors.proofs.answer_from.Goals.{then-within, else-within+else-b-ne35}
 use Rattle.vectors.proofs.answer_from.Goals as goal
 
 pub returns-then-b-ne35 : goal.returns-then-b-ne35
@@ -11,10 +12,11 @@ returns-then-b-ne35 c =
 pub loop-i-preserved : goal.loop-i-preserved
 loop-i-preserved c =
     let s = c.args.text.now in
-    ⊎_elim
-    (λ w. omega (arith, rw w.0.taken at c.loop-i.invariant, rw (← w.1) at (within-one s c.loop-i.i (omega arith))))
-    (λ w. omega (arith, rw w.0.left at c.loop-i.invariant, rw (← w.2) at (begins s c.loop-i.i (omega arith) w.1.left)))
-    c.if-within.branch
+    elim c.if-within.branch [
+      | then-within w ↦ omega (arith, rw w.if-within.true at c.loop-i.invariant, rw (← w.within-is) at (within-one s c.loop-i.i (omega arith)))
+      | else-within+else-b-ne35 w ↦
+          omega (arith, rw w.if-within.false at c.loop-i.invariant, rw (← w.within-is) at (begins s c.loop-i.i (omega arith) w.if-b-ne35.false))
+    ]
 
 pub returns : goal.returns
 returns c =

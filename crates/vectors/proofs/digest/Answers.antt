@@ -15,4 +15,4 @@ parts x t r p h =
 pub returns : goal.returns
 returns c =
     let g = c.args in
-    parts (bit_xor g.h g.b) c.times_435.result c.wrapping_add_u64.result c.times_435.ensures c.wrapping_add_u64.ensures
+    parts (bit_xor g.h g.b) c.times_435.result c.wrapping_add_u64.result c.times_435.ensures c.wrapping_add_u64.ensures.value

@@ -1,0 +1,41 @@
+use mathlib.Core.Path.{◌≡◌, refl, sym, ◌∙◌}
+use mathlib.Core.List.{[]}
+use mathlib.Core.Bool.{true}
+use borrow.Author.Rules.{rules}
+use borrow.Author.Tests.{not-true, not-false}
+use lib.ListN.{length}
+use Rattle.keys.specs.Keys.{is_key}
+use Rattle.gate.specs.Gate.{Passed}
+use Rattle.gate.proofs.Gates.{gate-unfit, gate-passed}
+use Rattle.edit.proofs.Plans.{remove-1, remove-3, remove-8, remove-rest}
+use Rattle.edit.proofs.remove_ape_item.Goals as goal
+use Rattle.edit.proofs.remove_ape_item.Goals.{Else-not-is_key, In-Items}
+
+pub returns-then-file-gt-FILE_LIMIT : goal.returns-then-file-gt-FILE_LIMIT
+returns-then-file-gt-FILE_LIMIT c = let g = c.args in rw (remove-1 g.file.now g.key.now [] (length g.out.now) c.if-file-gt-FILE_LIMIT.true) (refl, refl)
+
+pub returns-then-not-is_key : goal.returns-then-not-is_key
+returns-then-not-is_key c =
+    let g = c.args in
+    rw (remove-3 g.file.now g.key.now [] (length g.out.now) c.if-file-gt-FILE_LIMIT.false (sym c.is_key.ensures ∙ c.if-not-is_key.true)) (refl, refl)
+
+-- the key is good
+key : (c : Else-not-is_key) → is_key c.args.key.now ≡ true
+key c = sym c.is_key.ensures ∙ c.if-not-is_key.false
+
+pub returns-in_default : goal.returns-in_default
+returns-in_default c =
+    let g = c.args in
+    rw (remove-8 g.file.now g.key.now [] (length g.out.now) c.if-file-gt-FILE_LIMIT.false (key (goal.at.returns-in_default c).Else-not-is_key) (gate-unfit g.file.now c.gate-g.result c.gate-g.ensures c.in_default.is)) (refl, refl)
+
+-- and the file is fit for editing
+passed : (c : In-Items) → Passed c.args.file.now c.in-Items.start c.in-Items.end c.in-Items.count
+passed c = gate-passed c.args.file.now c.gate-g.result c.in-Items.start c.in-Items.end c.in-Items.count c.gate-g.ensures c.in-Items.is
+
+pub returns : goal.returns
+returns c =
+    let g = c.args in
+    rw (remove-rest g.file.now g.key.now [] (length g.out.now) c.if-file-gt-FILE_LIMIT.false (key (goal.at.returns c).Else-not-is_key) (passed (goal.at.returns c).In-Items).passes) c.drop_items.ensures
+
+pub drop_items-requires : goal.drop_items-requires
+drop_items-requires c = (passed (goal.at.drop_items-requires c).In-Items, c.if-file-gt-FILE_LIMIT.false)
