@@ -2,7 +2,6 @@
 #![tactic(auto)]
 
 use ape::{FooterFound, TagRead};
-use ape_replace::Cut;
 use ape_write::Written;
 use std::io;
 use vectors::Replay;
@@ -88,10 +87,14 @@ fn serialize(text: &[u8], at: usize) -> bool {
     wrote(text, words::next_word(text, area_at), w, &out)
 }
 
-// Whether the three words at this place say where a file is cut; `none` stands for a part that is empty.
-fn is_cut(text: &[u8], at: usize, cut: Cut) -> bool {
-    let from = words::next_word(text, at);
-    if cut.front as u64 != words::unsigned(text, at) {
+// `split FILE FRONT FROM TO`: where what precedes the tag ends, and where what follows it stands, or `none`.
+fn split(text: &[u8], at: usize) -> bool {
+    let mut file = [0u8; 4096];
+    let n = words::hex_bytes(text, at, &mut file);
+    let front = words::next_word(text, at);
+    let from = words::next_word(text, front);
+    let cut = ape_replace::split_ape_tag(&file[0..n]);
+    if cut.front as u64 != words::unsigned(text, front) {
         return false;
     }
     if lists::starts_with(text, from, b"none") {
@@ -101,23 +104,6 @@ fn is_cut(text: &[u8], at: usize, cut: Cut) -> bool {
         return false;
     }
     cut.to as u64 == words::unsigned(text, words::next_word(text, from))
-}
-
-// `split FILE FRONT FROM TO FRONT FROM TO`: by cut_ape_tag, which is what the Rust calls split_ape_tag, and by ape_tag_parts.
-fn split(text: &[u8], at: usize) -> bool {
-    let mut file = [0u8; 4096];
-    let n = words::hex_bytes(text, at, &mut file);
-    let first = words::next_word(text, at);
-    let from = words::next_word(text, first);
-    let to = words::next_word(text, from);
-    if !is_cut(text, first, ape_replace::cut_ape_tag(&file[0..n])) {
-        return false;
-    }
-    is_cut(
-        text,
-        words::next_word(text, to),
-        ape_replace::ape_tag_parts(&file[0..n]),
-    )
 }
 
 // Whether the answer in the line at this place is the library's.

@@ -1,4 +1,4 @@
-// Replays the published Rust's recorded answers for crates frame and tally.
+// Replays the published Rust's recorded answers for crate frame.
 #![tactic(auto)]
 
 use frame::{GainMode, GainSteps, TagStart};
@@ -55,60 +55,6 @@ fn start(text: &[u8], at: usize) -> bool {
     }
 }
 
-// `end FILE PLACE`: where the sound of the file ends.
-fn end(text: &[u8], at: usize) -> bool {
-    let mut file = [0u8; 1024];
-    let n = words::hex_bytes(text, at, &mut file);
-    frame::find_audio_end(&file[0..n]) as u64 == words::unsigned(text, words::next_word(text, at))
-}
-
-// The gains from `first` on, each one more than the last, modulo 256.
-fn gains_from(first: u64) -> [u8; 256] {
-    let mut gains = [0u8; 256];
-    let mut i = 0;
-    let mut g = first % 256;
-    while i < 256 {
-        gains[i] = (g % 256) as u8;
-        g = (g + 1) % 256;
-        i += 1;
-    }
-    gains
-}
-
-// `tally FLAG STEPS FIRST LAST LOW HIGH LOST LEAST GREATEST`: the counts of the gains from the first to the last, and their range afterwards.
-fn tally(text: &[u8], at: usize) -> bool {
-    let steps_at = words::next_word(text, at);
-    let first_at = words::next_word(text, steps_at);
-    let last_at = words::next_word(text, first_at);
-    let low = words::next_word(text, last_at);
-    let high = words::next_word(text, low);
-    let lost = words::next_word(text, high);
-    let least = words::next_word(text, lost);
-    let greatest = words::next_word(text, least);
-    let first = words::unsigned(text, first_at) % 256;
-    let last = words::unsigned(text, last_at) % 256;
-    if last < first {
-        return false;
-    }
-    let n = (last - first + 1) as usize;
-    let gains = gains_from(first);
-    let mode = GainMode::from_wrap(lists::starts_with(text, at, b"W"));
-    let t = tally::tally(&gains[0..n], GainSteps(words::signed(text, steps_at)), mode);
-    if t.low as u64 != words::unsigned(text, low) {
-        return false;
-    }
-    if t.high as u64 != words::unsigned(text, high) {
-        return false;
-    }
-    if t.lost as u64 != words::unsigned(text, lost) {
-        return false;
-    }
-    if t.least as u64 != words::unsigned(text, least) {
-        return false;
-    }
-    t.greatest as u64 == words::unsigned(text, greatest)
-}
-
 // `id3v1 FILE BOOL`.
 fn id3v1(text: &[u8], at: usize) -> bool {
     let mut file = [0u8; 1024];
@@ -138,12 +84,6 @@ fn agrees(text: &[u8], at: usize) -> bool {
     }
     if lists::starts_with(text, at, b"id3v1 ") {
         return id3v1(text, from);
-    }
-    if lists::starts_with(text, at, b"end ") {
-        return end(text, from);
-    }
-    if lists::starts_with(text, at, b"tally ") {
-        return tally(text, from);
     }
     if lists::starts_with(text, at, b"u32 ") {
         return number(text, from);

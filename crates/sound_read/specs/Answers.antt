@@ -2,7 +2,6 @@
 use Rattle.std.specs.Prelude.{ℕ, List, length, take}
 use Rattle.lists.specs.Write.{over}
 use Rattle.replies.specs.Refusal.{Plan, no, yes}
-use Rattle.sound_lists.specs.declared.Counts.{Counts}
 use Rattle.sound_calls.specs.Sound.{Gains}
 use Rattle.sound_read.specs.declared.GainsRead.{GainsRead}
 use Rattle.sound_read.specs.declared.GainsRead.TheVariants.{Done, Refused}

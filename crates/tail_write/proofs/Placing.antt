@@ -4,12 +4,12 @@ use native.Mathlib.Omega.{arith}
 use mathlib.Core.Path.{◌≡◌, refl, sym, ap, ◌∙◌}
 use mathlib.Core.Bool.{Bool, true, false, not, ◌&&◌, cond}
 use mathlib.Core.List.{List, []}
-use lib.ListN.{length, take, drop}
+use lib.ListN.{length, take}
 use lib.Seq.{length-take-le}
 use lib.Dec.{leb}
 use borrow.Author.Tests.{leb-true, leb-false, le-leb, lt-leb}
 use Rattle.lists.specs.Write.{part}
-use Rattle.frame.specs.Tail.{preamble, id3v1_mark, stands_at, ends_with_id3v1, tag_start}
+use Rattle.frame.specs.Tail.{preamble, stands_at, ends_with_id3v1, tag_start}
 use Rattle.frame.specs.declared.TagStart.{TagStart}
 use Rattle.frame.specs.declared.TagStart.TheVariants.{At as StartAt, Nowhere as NoStart}
 use Rattle.frame.proofs.Tails.{start-within}
@@ -19,7 +19,7 @@ use Rattle.ape.specs.declared.Footer.TheVariants.{At, Nowhere}
 use Rattle.ape.proofs.Files.{footer-within}
 use Rattle.ape_replace.specs.Answers.{cut, audio_cut, Cuts}
 use Rattle.ape_replace.proofs.Cutting.{audio-plain, tag-none, tag-unstarted, tag-started, parts-rest, parts_last, cuts-as}
-use Rattle.tail_write.specs.Rewrite.{tagless, start_in, block_before, audio_end, behind}
+use Rattle.tail_write.specs.Rewrite.{tagless, start_in, block_before}
 use Rattle.tail_write.specs.Answers.{bare_of, place_in, Places}
 use Rattle.tail_write.specs.declared.Place.{Place}
 

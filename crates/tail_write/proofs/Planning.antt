@@ -22,11 +22,10 @@ use Rattle.ape.specs.declared.Footer.TheVariants.{At}
 use Rattle.ape.specs.Answers.{lent_fits, has_room}
 use Rattle.ape_write.specs.Answers.{area_fits}
 use Rattle.ape_replace.proofs.Cutting.{part-front}
-use Rattle.tail_write.specs.Rewrite.{tagless, audio_end, behind, Tail, tail, tail_of, length_of}
+use Rattle.tail_write.specs.Rewrite.{tagless, Tail, tail, tail_of, length_of}
 use Rattle.tail_write.specs.Answers.{room_plan, rewrite_plan, rewrite_answer, rewrite_buffer, whole_answer, whole_buffer, Places}
 use Rattle.tail_write.proofs.Placing.{here, place-tagged, places-as}
-use Rattle.tail_write.specs.declared.Rewritten.{Rewritten}
-use Rattle.tail_write.specs.declared.Rewritten.TheVariants.{Done, Stopped, Refused}
+use Rattle.tail_write.specs.declared.Rewritten.TheVariants.{Done, Stopped}
 
 -- a part of the front of a list is a part of the list
 pub part-take : (from to n : ℕ) (s : List ℕ) → to ≤ n → part from to (take n s) ≡ part from to s

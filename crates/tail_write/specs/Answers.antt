@@ -1,5 +1,5 @@
 -- What the rewriting of a file's end answers and leaves in the buffer.
-use Rattle.std.specs.Prelude.{ℕ, ◌+◌, ◌-◌, ◌≤◌, Bool, true, false, not, cond, ◌≡◌, List, [], ◌∷◌, length, take, leb, ltb}
+use Rattle.std.specs.Prelude.{ℕ, ◌+◌, ◌≤◌, Bool, true, false, not, cond, ◌≡◌, List, [], ◌∷◌, length, take, leb, ltb}
 use Rattle.lists.specs.Write.{part}
 use Rattle.replies.specs.Refusal.{need, refusal_of, Plan, no, yes, planned}
 use Rattle.replies.specs.declared.Refusal.TheVariants.{NoRoom}

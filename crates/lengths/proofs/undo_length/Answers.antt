@@ -37,3 +37,8 @@ unfolding undo_length
 returns-in-Refused c =
     let g = c.args in
     rw (undo-refused g.file.now g.left.now g.right.now unlimited (undo-not g.file.now (is_there g.left.now) (checked (goal.at.returns-in-Refused c).After-check_undo-c) c.in-Refused.is))
+
+pub drop_length-requires : goal.drop_length-requires
+drop_length-requires c =
+    let r = ready (goal.at.drop_length-requires c).In-Ready in
+    (r.passed, r.short)

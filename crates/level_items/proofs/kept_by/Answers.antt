@@ -40,6 +40,7 @@ kept : (c : After-keeps_peak) → c.keeps_peak.result ≡ (keeps_peak c.args.ste
 kept c = c.keeps_peak.ensures ∙ ap₂ (λ (a b : List ℕ). (keeps_peak c.args.steps.0) (text_item a b)) ((let it : Turn c.args.area.now c.loop-left.at c.loop-left.left c.in-Item.key_start c.in-Item.key_end c.in-Item.value_start c.in-Item.value_end = turn c.loop-left.invariant.0 c.loop-left-test.true (sym c.in-Item.is ∙ c.step-s.ensures) in it)).key ((let it : Turn c.args.area.now c.loop-left.at c.loop-left.left c.in-Item.key_start c.in-Item.key_end c.in-Item.value_start c.in-Item.value_end = turn c.loop-left.invariant.0 c.loop-left-test.true (sym c.in-Item.is ∙ c.step-s.ensures) in it)).value ∙ kept_any _ ((let it : Turn c.args.area.now c.loop-left.at c.loop-left.left c.in-Item.key_start c.in-Item.key_end c.in-Item.value_start c.in-Item.value_end = turn c.loop-left.invariant.0 c.loop-left-test.true (sym c.in-Item.is ∙ c.step-s.ensures) in it)).item
 
 pub loop-left-preserved-then-keeps_peak : goal.loop-left-preserved-then-keeps_peak
+unfolding here
 loop-left-preserved-then-keeps_peak c =
     (
       (here (goal.at.loop-left-preserved-then-keeps_peak c).In-Item).rest,
@@ -48,6 +49,7 @@ loop-left-preserved-then-keeps_peak c =
     )
 
 pub loop-left-preserved : goal.loop-left-preserved
+unfolding here
 loop-left-preserved c =
     (
       (here (goal.at.loop-left-preserved c).In-Item).rest,

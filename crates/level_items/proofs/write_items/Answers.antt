@@ -18,7 +18,6 @@ use Rattle.level_items.specs.Items.{Wrote, undone_items, ranged_items}
 use Rattle.level_items.proofs.Moved.{moved-short, undone-sane, undone-short, ranged-short}
 use Rattle.level_items.proofs.write_items.Goals as goal
 use Rattle.level_items.proofs.write_items.Goals.{After-put_moved-moved, After-put_undo-undone, Start}
-use Rattle.level_items.proofs.write_items.Tie as tie
 
 -- what level is asked, and the items that it finds
 abbrev asked : (b : Start) → Level
@@ -44,7 +43,7 @@ put_moved-moved-requires c =
 
 -- the output, with the moved items at its front
 abbrev moved : (c : After-put_moved-moved) → List ℕ
-moved c = c.put_moved-moved.new.1.1.1.1.1.0
+moved c = c.put_moved-moved.new.out
 
 moved-stand : (c : After-put_moved-moved) → parse c.put_moved-moved.result.count (take (c.put_moved-moved.result.length - 0) (moved c)) ≡ some (shifted_items ((record { left = c.args.left.0; right = c.args.right.0; mode = c.args.mode })) ((items_in c.args.count c.args.area.now)))
 moved-stand c =
@@ -66,34 +65,32 @@ put_undo-undone-requires c =
 
 -- the other array, with the items after the undo item was set
 abbrev undone : (c : After-put_undo-undone) → List ℕ
-undone c = c.put_undo-undone.new.1.1.1.1.0
+undone c = c.put_undo-undone.new.out
 
 wrote-same : (g : List Item → List Item) {us ts : List Item} (out : List ℕ) (r : Measure) {after : List ℕ} → us ≡ ts → Wrote (g us) out r after → Wrote (g ts) out r after
 wrote-same g out r e w = rw (← e) w
 
 -- it holds what put_undo makes of the moved ones
-abbrev b : (c : After-put_undo-undone) → tie.Start
-b c = c.before.before.before.before.before.before.before.before.before.before.before.before
-
-abbrev p : (c : After-put_undo-undone) → tie.After-put-moved
-p c = c.before.before.before.before.before.before.before
-
-found : (c : After-put_undo-undone) → items_in (p c).put-moved.result.count (take ((p c).put-moved.result.length - 0) (moved (p c))) ≡ shifted_items (asked (b c)) (there (b c))
-found c = (back-good (p c).put-moved.result.count (take ((p c).put-moved.result.length - 0) (moved (p c))) (moved-stand (p c))).1
+found : (c : After-put_undo-undone) → items_in c.put_moved-moved.result.count (take (c.put_moved-moved.result.length - 0) c.put_moved-moved.new.out) ≡ shifted_items ((record { left = c.args.left.0; right = c.args.right.0; mode = c.args.mode })) ((items_in c.args.count c.args.area.now))
+found c =
+    (back-good c.put_moved-moved.result.count (take (c.put_moved-moved.result.length - 0) c.put_moved-moved.new.out) ((let it : parse c.put_moved-moved.result.count (take (c.put_moved-moved.result.length - 0) c.put_moved-moved.new.out) ≡ some (shifted_items ((record { left = c.args.left.0; right = c.args.right.0; mode = c.args.mode })) ((items_in c.args.count c.args.area.now))) = let w = c.put_moved-moved.ensures in
+    read_back (shifted_items ((record { left = c.args.left.0; right = c.args.right.0; mode = c.args.mode })) ((items_in c.args.count c.args.area.now))) c.put_moved-moved.new.out _ c.put_moved-moved.result.length c.put_moved-moved.result.count w.2 w.1 w.0
+    (shifted-sane ((record { left = c.args.left.0; right = c.args.right.0; mode = c.args.mode })) ((items_in c.args.count c.args.area.now)) ((let it : AllSane ((items_in c.args.count c.args.area.now)) = parse-sane c.args.count c.args.area.now (λ i. omega (arith, c.shared_slice_known-1.given i)) in it)))
+    (omega (arith, moved-short ((record { left = c.args.left.0; right = c.args.right.0; mode = c.args.mode })) ((items_in c.args.count c.args.area.now)), (let it : length ((items_in c.args.count c.args.area.now)) ≡ c.args.count = count-items c.args.count c.args.area.now c.requires.0 in it), (let it : length (area_bytes ((items_in c.args.count c.args.area.now))) ≡ length c.args.area.now = area-length c.args.count c.args.area.now c.requires.0 in it), c.requires.1, c.requires.2)) in it))).1
 
 abbrev with-undo : (c : After-put_undo-undone) → List Item → List Item
-with-undo c ts = set_item undo_key (format_undo (b c).args.undo.left (b c).args.undo.right (wraps (b c).args.mode)) ts
+with-undo c ts = set_item undo_key (format_undo c.args.undo.left c.args.undo.right (wraps c.args.mode)) ts
 
-wrote-undone : (c : After-put_undo-undone) → Wrote (undone_items (asked (b c)) (b c).args.undo (there (b c))) (b c).args.work.now c.put_undo-undone.result (undone c)
+wrote-undone : (c : After-put_undo-undone) → Wrote (undone_items ((record { left = c.args.left.0; right = c.args.right.0; mode = c.args.mode })) c.args.undo ((items_in c.args.count c.args.area.now))) c.args.work.now c.put_undo-undone.result (undone c)
 unfolding undone_items
 wrote-undone c = wrote-same (with-undo c) _ c.put_undo-undone.result (found c) c.put_undo-undone.ensures
 
-undone-stand : (c : After-put_undo-undone) → parse c.put_undo-undone.result.count (take (c.put_undo-undone.result.length - 0) (undone c)) ≡ some (undone_items (asked (b c)) (b c).args.undo (there (b c)))
+undone-stand : (c : After-put_undo-undone) → parse c.put_undo-undone.result.count (take (c.put_undo-undone.result.length - 0) (undone c)) ≡ some (undone_items ((record { left = c.args.left.0; right = c.args.right.0; mode = c.args.mode })) c.args.undo ((items_in c.args.count c.args.area.now)))
 undone-stand c =
     let w = (wrote-undone c) in
-    read_back (undone_items (asked (b c)) (b c).args.undo (there (b c))) (undone c) _ c.put_undo-undone.result.length c.put_undo-undone.result.count w.2 w.1 w.0
-    (undone-sane (asked (b c)) (b c).args.undo (there (b c)) (sane (p c)))
-    (omega (arith, undone-short (asked (b c)) (b c).args.undo (there (b c)), few (b c), small (b c), (b c).pre.1, (b c).pre.2))
+    read_back (undone_items ((record { left = c.args.left.0; right = c.args.right.0; mode = c.args.mode })) c.args.undo ((items_in c.args.count c.args.area.now))) (undone c) _ c.put_undo-undone.result.length c.put_undo-undone.result.count w.2 w.1 w.0
+    (undone-sane ((record { left = c.args.left.0; right = c.args.right.0; mode = c.args.mode })) c.args.undo ((items_in c.args.count c.args.area.now)) ((let it : AllSane ((items_in c.args.count c.args.area.now)) = parse-sane c.args.count c.args.area.now (λ i. omega (arith, c.shared_slice_known-1.given i)) in it)))
+    (omega (arith, undone-short ((record { left = c.args.left.0; right = c.args.right.0; mode = c.args.mode })) c.args.undo ((items_in c.args.count c.args.area.now)), (let it : length ((items_in c.args.count c.args.area.now)) ≡ c.args.count = count-items c.args.count c.args.area.now c.requires.0 in it), (let it : length (area_bytes ((items_in c.args.count c.args.area.now))) ≡ length c.args.area.now = area-length c.args.count c.args.area.now c.requires.0 in it), c.requires.1, c.requires.2))
 
 pub slice_bounds-put_range-end : goal.slice_bounds-put_range-end
 slice_bounds-put_range-end c =

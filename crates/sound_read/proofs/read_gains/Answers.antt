@@ -3,9 +3,7 @@ use Prim.Native.Nat.{ℕ, ◌-◌}
 use native.Mathlib.Omega.{arith}
 use mathlib.Core.Path.{◌≡◌, refl, sym, ap, ◌∙◌}
 use mathlib.Core.List.{List}
-use borrow.Author.Rules.{rules}
 use borrow.Author.Tests.{not-true, not-false}
-use lib.ListN.{length}
 use lib.Seq.{length-take-le}
 use Rattle.ape.specs.Tag.{split}
 use Rattle.ape_replace.proofs.Cutting.{CutsAs, cuts-as}
@@ -28,7 +26,7 @@ record Found (file : List ℕ) (x : Scan) : Type 0 where
 
 found : (c : After-scan_gains-found) → Found c.args.file.now c.scan_gains-found.result
 found c =
-    let k = (let it : CutsAs (split c.args.file.now) c.args.file.now c.ape_tag_parts-cut.result = cuts-as c.args.file.now c.ape_tag_parts-cut.result c.ape_tag_parts-cut.ensures in it) in
+    let k = cuts-as c.args.file.now c.ape_tag_parts-cut.result c.ape_tag_parts-cut.ensures in
     let n = c.ape_tag_parts-cut.result.front in
     let z : n - 0 ≡ n = omega arith in
     let e = rw (z, k.front-is) at c.scan_gains-found.ensures in

@@ -1,7 +1,4 @@
-use mathlib.Core.Path.{◌≡◌, refl, ap}
-use Prim.Native.Nat.{ℕ}
-use native.Mathlib.Omega.{arith}
-use borrow.Author.Rules.{rules}
+use mathlib.Core.Path.{ap}
 use borrow.Author.Tests.{lt-ltb, le-ltb}
 use Rattle.tail_write.specs.declared.Rewritten.TheVariants.{Stopped}
 use Rattle.tail_write.proofs.found_then.Goals as goal

@@ -1,8 +1,5 @@
 use mathlib.Core.Path.{◌≡◌, sym, ap, ◌∙◌}
-use Prim.Native.Nat.{◌+◌, ◌≤◌}
 use native.Mathlib.Omega.{arith}
-use borrow.Author.Rules.{rules}
-use lib.ListN.{length}
 use Rattle.frame.specs.Tail.{tag_start}
 use Rattle.frame.specs.declared.TagStart.TheVariants.{At as StartAt}
 use Rattle.ape.specs.Tag.{find_footer}

@@ -1,9 +1,8 @@
 -- Three parts, each into the rest of the output, until the budget is spent. Header and footer are made in an array first.
-use mathlib.Core.Path.{◌≡◌, refl, sym, ap, ◌∙◌}
+use mathlib.Core.Path.{◌≡◌, sym, ap, ◌∙◌}
 use mathlib.Core.List.{List, ◌++◌, append_assoc}
 use Prim.Native.Nat.{ℕ, ◌+◌, ◌-◌, ◌≤◌}
 use native.Mathlib.Omega.{arith}
-use borrow.Author.Rules.{rules}
 use lib.ListN.{length, take, length-append}
 use Rattle.lists.specs.Write.{over}
 use Rattle.lists.proofs.Wrote.{at_front, splice_all}

@@ -1,7 +1,6 @@
-use mathlib.Core.Path.{◌≡◌, refl, sym, ap, ◌∙◌}
+use mathlib.Core.Path.{◌≡◌, refl, ap, ◌∙◌}
 use Prim.Native.Nat.{◌+◌, ◌≤◌}
 use native.Mathlib.Omega.{arith}
-use borrow.Author.Rules.{rules}
 use lib.ListN.{length}
 use lib.Seq.{take-nil}
 use Rattle.items.specs.Items.{items_in}
@@ -13,7 +12,7 @@ use Rattle.tail_write.proofs.put_tag_within.Goals.{Else-count-eq0}
 
 pub returns-then-count-eq0 : goal.returns-then-count-eq0
 returns-then-count-eq0 c =
-    rw (serialize-none c.args.area.now c.args.count (λ i. omega (arith, c.shared_slice_known-1.given i)) c.requires.0 c.if-count-eq0.true, take-nil c.args.budget) (omega arith, refl)
+    rw (serialize-none c.args.area.now c.args.count (λ i. omega (arith, c.type_inv.area i)) c.requires.0 c.if-count-eq0.true, take-nil c.args.budget) (omega arith, refl)
 
 -- there are items: the tag is 64 bytes longer than they are
 long : (c : Else-count-eq0) → let g = c.args in
@@ -21,7 +20,7 @@ long : (c : Else-count-eq0) → let g = c.args in
 long c =
     let s = c.args.area.now in
     let e : length (serialize (items_in c.args.count s)) ≡ length s + 64 =
-    ap length (serialize-parts s c.args.count (λ i. omega (arith, c.shared_slice_known-1.given i)) c.requires.0 (omega (arith, c.if-count-eq0.false)))
+    ap length (serialize-parts s c.args.count (λ i. omega (arith, c.type_inv.area i)) c.requires.0 (omega (arith, c.if-count-eq0.false)))
     ∙ length-parts s c.args.count in
     (omega (arith, e, c.requires.1), e)
 
@@ -35,5 +34,5 @@ put_parts_within-requires c = let l = long (goal.at.put_parts_within-requires c)
 pub returns : goal.returns
 returns c =
     let s = c.args.area.now in
-    rw (serialize-parts s c.args.count (λ i. omega (arith, c.shared_slice_known-1.given i)) c.requires.0 (omega (arith, c.if-count-eq0.false)), length-parts s c.args.count)
+    rw (serialize-parts s c.args.count (λ i. omega (arith, c.type_inv.area i)) c.requires.0 (omega (arith, c.if-count-eq0.false)), length-parts s c.args.count)
     c.put_parts_within.ensures

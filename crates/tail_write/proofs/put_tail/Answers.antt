@@ -1,7 +1,7 @@
 -- What follows is taken aside; then two parts, each into the rest of the buffer, until the budget is spent.
-use mathlib.Core.Path.{◌≡◌, refl, sym, ap, ◌∙◌}
-use mathlib.Core.List.{List, [], ◌++◌}
-use Prim.Native.Nat.{ℕ, ◌+◌, ◌-◌, ◌≤◌}
+use mathlib.Core.Path.{◌≡◌, sym, ap, ◌∙◌}
+use mathlib.Core.List.{List}
+use Prim.Native.Nat.{ℕ, ◌+◌, ◌-◌}
 use native.Mathlib.Omega.{arith}
 use borrow.Author.Rules.{rules}
 use lib.ListN.{length, take, drop}
@@ -9,7 +9,7 @@ use lib.Seq.{take_at}
 use Rattle.lists.specs.Write.{over, part}
 use Rattle.lists.proofs.Wrote.{length_rest, at_front}
 use Rattle.lists.proofs.Places.{length_part}
-use Rattle.items.specs.Items.{Item, items_in}
+use Rattle.items.specs.Items.{items_in}
 use Rattle.ape.specs.Tag.{serialize}
 use Rattle.ape_write.proofs.Tags.{serialize-length}
 use Rattle.tail_write.proofs.Sent.{unsent, send-rest}
@@ -31,11 +31,11 @@ aside : (zeros w : List ℕ) {xs : List ℕ} (n : ℕ) → n ≡ 0 + length w �
 aside zeros w n e f = ap (take (n - 0)) f ∙ take_at w (drop (length w) zeros) (n - 0) (omega arith)
 
 kept : (c : After-put-n) → take (c.put-n.result - 0) c.put-n.new.out ≡ (part c.args.place.from c.args.place.to c.args.buf.now)
-kept c = aside _ ((part c.args.place.from c.args.place.to c.args.buf.now)) c.put-n.result c.put-n.ensures.0 (c.put-n.ensures.1 ∙ at_front _ ((part c.args.place.from c.args.place.to c.args.buf.now)))
+kept c = aside _ (part c.args.place.from c.args.place.to c.args.buf.now) c.put-n.result c.put-n.ensures.0 (c.put-n.ensures.1 ∙ at_front _ (part c.args.place.from c.args.place.to c.args.buf.now))
 
 -- how long the tag is
-long : (c : After-tag_length) → c.tag_length.result ≡ length ((serialize (items_in c.args.count c.args.area.now)))
-long c = c.tag_length.ensures ∙ sym (serialize-length c.args.area.now c.args.count (λ i. omega (arith, c.shared_slice_known-1.given i)) c.requires.3)
+long : (c : After-tag_length) → c.tag_length.result ≡ length (serialize (items_in c.args.count c.args.area.now))
+long c = c.tag_length.ensures ∙ sym (serialize-length c.args.area.now c.args.count (λ i. omega (arith, c.type_inv.area i)) c.requires.3)
 
 pub put_tag_within-left-requires : goal.put_tag_within-left-requires
 put_tag_within-left-requires c =

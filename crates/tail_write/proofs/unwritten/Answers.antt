@@ -1,5 +1,3 @@
-use mathlib.Core.Path.{◌≡◌, refl}
-use borrow.Author.Rules.{rules}
 use Rattle.tail_write.proofs.unwritten.Goals as goal
 
 pub returns-then-tagged : goal.returns-then-tagged

@@ -1,7 +1,7 @@
 use Prim.Native.Nat.{◌≤◌, ◌<◌, ◌-◌}
 use native.Mathlib.Omega.{arith}
 use borrow.Author.Rules.{rules}
-use Rattle.frame_vectors.proofs.gains_from.Goals as goal
+use Rattle.tally_vectors.proofs.gains_from.Goals as goal
 
 pub loop-i-init : goal.loop-i-init
 loop-i-init c = (omega arith, omega arith)

@@ -1,7 +1,7 @@
 use Prim.Native.Nat.{◌≤◌, ◌<◌, ◌-◌}
 use native.Mathlib.Omega.{arith}
 use borrow.Author.Rules.{rules}
-use Rattle.frame_vectors.proofs.gains_from.Given as goal
+use Rattle.tally_vectors.proofs.gains_from.Given as goal
 
 abbrev pub invariant-loop-i : goal.invariant-loop-i
 invariant-loop-i l = (l.i ≤ 256) × (l.g < 256)
