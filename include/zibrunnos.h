@@ -27,7 +27,6 @@ extern "C" {
 #define ZIB_AREA_LIMIT 32768    /* bytes of the items of a tag that is edited */
 #define ZIB_LIST_LIMIT 16384    /* bytes of a file that is listed */
 #define ZIB_LIST_ROOM 147473    /* bytes that hold every listing */
-#define ZIB_VALUE_ROOM 32       /* bytes that hold every value that this library writes for mp3gain */
 #define ZIB_PROBE 160           /* last bytes of a file that say how many of them reading needs */
 
 /* A string literal as a slice: its pointer and its length, without the closing zero. It makes two arguments. */
@@ -303,19 +302,19 @@ uint32_t zib_set_replaygain(
     size_t track_peak_len, const uint8_t *album_gain, size_t album_gain_len, const uint8_t *album_peak, size_t album_peak_len,
     const uint8_t *algorithm, size_t algorithm_len, uint8_t *out, size_t out_len, size_t *items, size_t *written);
 
-/* ---- The values that mp3gain keeps in a tag: libc_values.a. A call here that answers uint32_t has no refusals and always answers 0. */
+/* ---- The values that mp3gain keeps in a tag: libc_values.a. A call here that has no refusals always answers 0. */
 
 /* Reads an undo text: its two numbers, and 1 for the flag W or 0 for N. An empty text reads as 0, 0 and N. */
 uint32_t zib_parse_undo(const uint8_t *text, size_t text_len, int32_t *left, int32_t *right, uint32_t *wrap);
 
-/* Writes the undo text of two numbers and a flag, and answers its length, 25 at most. */
-size_t zib_format_undo_value(int32_t left, int32_t right, bool wrap, uint8_t text[ZIB_VALUE_ROOM]);
+/* Writes the undo text of two numbers and a flag, which has at most 25 bytes. Refusal 5. */
+uint32_t zib_format_undo_value(int32_t left, int32_t right, bool wrap, uint8_t *out, size_t out_len, size_t *written);
 
 /* Gives the undo numbers after a further level by these steps: those of the text less the steps. */
 uint32_t zib_accumulate_undo(const uint8_t *text, size_t text_len, int32_t left, int32_t right, int32_t *newleft, int32_t *newright);
 
-/* Writes the text of a range, and answers its length, which is 7. */
-size_t zib_format_minmax(uint8_t least, uint8_t greatest, uint8_t text[ZIB_VALUE_ROOM]);
+/* Writes the text of a range, which has 7 bytes. Refusal 5. */
+uint32_t zib_format_minmax(uint8_t least, uint8_t greatest, uint8_t *out, size_t out_len, size_t *written);
 
 /* Answers whether an item is a range, MP3GAIN_MINMAX or MP3GAIN_ALBUM_MINMAX, and one of its numbers would leave 0..255. */
 bool zib_range_wraps_out(const uint8_t *key, size_t key_len, const uint8_t *value, size_t value_len, int32_t steps);
@@ -324,12 +323,12 @@ bool zib_range_wraps_out(const uint8_t *key, size_t key_len, const uint8_t *valu
  * is left over, in units of 10^-15 dB. */
 uint32_t zib_steps_to_db(int32_t steps, uint32_t *minus, uint64_t *millionths, uint64_t *rest);
 
-/* Moves one stored value, a range, a gain text or a peak, by so many steps: answers true and writes the new text, of 21 bytes at most; or
- * answers false, and the value stays as it is: nothing is written to `text`, and `written` is 0. A peak text of 1 or 2 digits, a point and 6
- * digits is moved to the nearest millionth, a half going up, unless it would pass 99.999999. */
-bool zib_shift_stored_value(
-    const uint8_t *key, size_t key_len, const uint8_t *value, size_t value_len, int32_t steps, uint8_t text[ZIB_VALUE_ROOM],
-    size_t *written);
+/* Moves one stored value, a range, a gain text or a peak, by so many steps: `moved` is 1 and the new text, of at most 32 bytes, goes to
+ * `out`, or `moved` and `written` are 0 and the value stays as it is. A peak text of 1 or 2 digits, a point and 6 digits is moved to the
+ * nearest millionth, a half going up, unless it would pass 99.999999. Refusal 5. */
+uint32_t zib_shift_stored_value(
+    const uint8_t *key, size_t key_len, const uint8_t *value, size_t value_len, int32_t steps, uint32_t *moved, uint8_t *out,
+    size_t out_len, size_t *written);
 
 /* ---- What a level does to a list of gains: libc_tally.a */
 

@@ -68,16 +68,15 @@ static void values(void)
     uint32_t flag = 7;
     uint64_t millionths = 7, rest = 7;
     CHECK(zib_parse_undo(TEXT("-3,junk"), &left, &right, &flag) == 0 && left == -3 && right == -3 && flag == 0);
-    n = zib_format_undo_value(0, 1000, true, out);
-    CHECK(IS(out, n, "+000,+1000,W"));
+    CHECK(zib_format_undo_value(0, 1000, true, out, sizeof out, &n) == 0 && IS(out, n, "+000,+1000,W"));
+    CHECK(zib_format_undo_value(3, -12, false, out, 10, &n) == ZIB_NO_ROOM);
     CHECK(zib_accumulate_undo(TEXT("+003,-012,N"), 5, -5, &left, &right) == 0 && left == -2 && right == -7);
-    n = zib_format_minmax(94, 168, out);
-    CHECK(IS(out, n, "094,168"));
+    CHECK(zib_format_minmax(94, 168, out, sizeof out, &n) == 0 && IS(out, n, "094,168"));
     CHECK(zib_range_wraps_out(TEXT("MP3GAIN_MINMAX"), TEXT("094,168"), 100));
     CHECK(zib_steps_to_db(-2, &flag, &millionths, &rest) == 0 && flag == 1 && millionths == 3010299 && rest == 956639812);
-    CHECK(zib_shift_stored_value(TEXT("MP3GAIN_MINMAX"), TEXT("094,168"), 100, out, &n) && IS(out, n, "194,255"));
-    CHECK(!zib_shift_stored_value(TEXT("REPLAYGAIN_TRACK_PEAK"), TEXT("0.9"), 1, out, &n) && n == 0);
-    CHECK(zib_shift_stored_value(TEXT("REPLAYGAIN_TRACK_PEAK"), TEXT("1.000000"), 1, out, &n) && IS(out, n, "1.189207"));
+    CHECK(zib_shift_stored_value(TEXT("MP3GAIN_MINMAX"), TEXT("094,168"), 100, &flag, out, sizeof out, &n) == 0 && flag == 1 && IS(out, n, "194,255"));
+    CHECK(zib_shift_stored_value(TEXT("REPLAYGAIN_TRACK_PEAK"), TEXT("0.9"), 1, &flag, out, sizeof out, &n) == 0 && flag == 0);
+    CHECK(zib_shift_stored_value(TEXT("REPLAYGAIN_TRACK_PEAK"), TEXT("1.000000"), 1, &flag, out, sizeof out, &n) == 0 && flag == 1 && IS(out, n, "1.189207"));
 }
 
 #define FIVES "left=5\nright=5\n"
@@ -167,13 +166,13 @@ static void amplitudes(void)
 static void fixed_ranges(void)
 {
     uint32_t first = 7, second = 8;
-    uint8_t out[ZIB_VALUE_ROOM];
+    uint8_t out[7];
     size_t n = 0;
     CHECK(!zib_fixed_range(TEXT("+94,168"), &first, &second) && first == 7 && second == 8);
     CHECK(!zib_fixed_range(TEXT("0,0"), &first, &second) && first == 7 && second == 8);
     CHECK(zib_fixed_range(TEXT("94,168"), &first, &second) && first == 94 && second == 68);
     CHECK(zib_fixed_range(TEXT("999;001"), &first, &second) && first == 999 && second == 1);
-    CHECK((n = zib_format_minmax(94, 168, out)) == 7 && zib_compare_range_views(out, n) == ZIB_VIEWS_AGREE);
+    CHECK(zib_format_minmax(94, 168, out, sizeof out, &n) == 0 && zib_compare_range_views(out, n) == ZIB_VIEWS_AGREE);
     CHECK(zib_compare_range_views(TEXT("94 ,68 ")) == ZIB_VIEWS_AGREE && zib_compare_range_views(TEXT("0,000")) == ZIB_VIEWS_AGREE);
     CHECK(zib_compare_range_views(TEXT("94,168")) == ZIB_VIEWS_DIFFER && zib_compare_range_views(TEXT("0,200")) == ZIB_VIEWS_DIFFER);
     CHECK(zib_compare_range_views(TEXT("0094,168")) == ZIB_ONLY_OURS && zib_compare_range_views(TEXT("0,0")) == ZIB_ONLY_OURS);
@@ -374,10 +373,13 @@ static void empty(void)
     CHECK(zib_lossy_into(NONE, NONE, &a) == 0 && a == 0);
     CHECK(zib_lossy_into(TEXT("x"), NONE, &a) == ZIB_NO_ROOM);
     CHECK(zib_parse_undo(NONE, &left, &right, &flag) == 0 && left == 0 && right == 0 && flag == 0);
+    CHECK(zib_format_undo_value(1, 2, true, NONE, &a) == ZIB_NO_ROOM);
     CHECK(zib_accumulate_undo(NONE, 5, -5, &left, &right) == 0 && left == -5 && right == 5);
+    CHECK(zib_format_minmax(1, 2, NONE, &a) == ZIB_NO_ROOM);
     CHECK(!zib_range_wraps_out(NONE, NONE, 255) && !zib_range_wraps_out(TEXT("MP3GAIN_MINMAX"), NONE, 255));
     a = 7;
-    CHECK(!zib_shift_stored_value(NONE, NONE, 1, out, &a) && a == 0);
+    CHECK(zib_shift_stored_value(NONE, NONE, 1, &flag, NONE, &a) == 0 && flag == 0 && a == 0);
+    CHECK(zib_shift_stored_value(TEXT("MP3GAIN_MINMAX"), TEXT("1,2"), 1, &flag, NONE, &a) == ZIB_NO_ROOM);
     CHECK(zib_parse_slip(NONE, &left, &right, &flag) == ZIB_MALFORMED_SLIP);
     CHECK(zib_resolve_mode(NONE, ZIB_MODE_UNNAMED, &flag) == 0 && flag == ZIB_MODE_W);
     CHECK(zib_level_by_slip(NONE, NONE, NONE, NONE, NONE, &a, &b) == ZIB_MALFORMED_SLIP);
@@ -468,7 +470,8 @@ static void rooms(void)
     CHECK(zib_set_minmax(TEXT(AREA), 1, 0, 255, out, 12 + 30, &a, &b) == 0 && zib_set_minmax(TEXT(AREA), 1, 0, 255, out, 12 + 29, &a, &b) == ZIB_NO_ROOM);
     CHECK(zib_set_replaygain(TEXT(AREA), 1, TEXT("a"), TEXT("b"), TEXT("c"), TEXT("d"), TEXT("e"), out, 12 + 149 + 5, &a, &b) == 0 && b == 166);
     CHECK(zib_set_replaygain(TEXT(AREA), 1, TEXT("a"), TEXT("b"), TEXT("c"), TEXT("d"), TEXT("e"), out, 12 + 149 + 4, &a, &b) == ZIB_NO_ROOM);
-    CHECK(zib_format_undo_value(INT32_MIN, INT32_MIN, true, out) == 25 && zib_format_minmax(0, 255, out) == 7);
+    CHECK(zib_format_undo_value(INT32_MIN, INT32_MIN, true, out, 25, &a) == 0 && zib_format_undo_value(INT32_MIN, INT32_MIN, true, out, 24, &a) == ZIB_NO_ROOM);
+    CHECK(zib_format_minmax(0, 255, out, 7, &a) == 0 && zib_format_minmax(0, 255, out, 6, &a) == ZIB_NO_ROOM);
     /* The most that reading grows, and as many gain texts as level can move, each of which grows by 6 bytes. */
     CHECK(zib_read_ape_tag(TEXT("\2\0\0\0" "\0\0\0\0" "\xff\xff\0" "\xff\xff" BARE("\x2d\0", "\1\0")), out, 3 * 45, &there, &a, &b) == 0 && b == 21);
     for (size_t i = 0; i < GAINS; i++)
@@ -488,7 +491,7 @@ static void limits(void)
     uint8_t key[4] = "K000";
     size_t n = 0, m = 0, count = 0, start = 0, end = 0;
     uint32_t there = 7;
-    CHECK(zib_lossy_size(file, ZIB_FILE_LIMIT, SIZE_MAX, &n) == 0 && n == ZIB_FILE_LIMIT && zib_lossy_size(file, ZIB_FILE_LIMIT + 1, SIZE_MAX, &n) == ZIB_NO_ROOM);
+    CHECK(zib_lossy_size(file, ZIB_FILE_LIMIT, SIZE_MAX, &n) == 0 && n == ZIB_FILE_LIMIT && zib_lossy_size(file, ZIB_FILE_LIMIT + 1, SIZE_MAX, &n) == 0 && n == ZIB_FILE_LIMIT + 1);
     CHECK(zib_find_ape_footer(file, ZIB_FILE_LIMIT, &there, &n) == 0 && zib_find_ape_footer(file, ZIB_FILE_LIMIT + 1, &there, &n) == ZIB_FILE_TOO_LONG);
     CHECK(zib_list_tag(file, ZIB_LIST_LIMIT, text) == 11 && zib_list_tag(file, ZIB_LIST_LIMIT + 1, text) == 10);
     n = 0;

@@ -1,5 +1,6 @@
 //! What the case modules share: random numbers, the comparison with its search for a small input, recorded lines, and times.
 
+use std::collections::BTreeMap;
 use std::fmt::Debug;
 use std::hint::black_box;
 use std::path::Path;
@@ -141,26 +142,34 @@ impl Compare {
     }
 }
 
-/// The recorded answers of one module: lines of words, replayed by the program `NAME_vectors`, and runs of programs.
+/// The recorded answers of one module: lines of words, replayed by the program `NAME_vectors` or by one of another name, and runs of programs.
 pub struct Record {
     name: &'static str,
     pub rng: Rng,
-    text: String,
+    first: String,
+    /// The lines of each program, by its name.
+    texts: BTreeMap<&'static str, String>,
     /// Files, seen from the root, with what stands in them.
     files: Vec<(String, Vec<u8>)>,
 }
 
 impl Record {
     pub fn new(name: &'static str, seed: u64) -> Self {
-        let text = format!(
+        let first = format!(
             "# Answers of the published Rust, and document 01's where it decides otherwise, written by `oracle record --seed {seed}`.\n"
         );
-        Record { name, rng: Rng::new(seed), text, files: Vec::new() }
+        Record { name, rng: Rng::new(seed), first, texts: BTreeMap::new(), files: Vec::new() }
     }
 
     pub fn line(&mut self, words: &[String]) {
-        self.text += &words.join(" ");
-        self.text.push('\n');
+        self.line_of(self.name, words);
+    }
+
+    /// A line that another program replays.
+    pub fn line_of(&mut self, name: &'static str, words: &[String]) {
+        let text = self.texts.entry(name).or_insert_with(|| self.first.clone());
+        *text += &words.join(" ");
+        text.push('\n');
     }
 
     /// A run of a program: the file with what it reads and the one with what it must write, seen from the root.
@@ -171,13 +180,12 @@ impl Record {
 
     /// Writes the files, or, to check, holds the written ones against them. A module that records nothing has none.
     pub fn finish(mut self, check: bool) {
-        let answers = self.text.lines().count() - 1;
-        if answers == 0 {
-            return;
-        }
         let runs = self.files.len() / 2;
-        assert!(self.text.len() < 1 << 20, "the replaying program has room for 1 MiB");
-        self.files.push((format!("crates/{}_vectors/stdin", self.name), self.text.into_bytes()));
+        let answers: Vec<_> = self.texts.iter().map(|(name, text)| (*name, text.lines().count() - 1)).collect();
+        for (name, text) in self.texts {
+            assert!(text.len() < 1 << 20, "the replaying program has room for 1 MiB");
+            self.files.push((format!("crates/{name}_vectors/stdin"), text.into_bytes()));
+        }
         let root = Path::new(env!("CARGO_MANIFEST_DIR")).join("..");
         for (file, bytes) in &self.files {
             let path = root.join(file);
@@ -193,8 +201,10 @@ impl Record {
                 fail("is not what `oracle record` writes");
             }
         }
-        let more = if runs > 0 { format!(" and {runs} runs") } else { String::new() };
-        println!("{}: {answers} recorded answers{more}", self.name);
+        for (name, answers) in answers {
+            let more = if runs > 0 && name == self.name { format!(" and {runs} runs") } else { String::new() };
+            println!("{name}: {answers} recorded answers{more}");
+        }
     }
 }
 

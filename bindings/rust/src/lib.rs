@@ -950,10 +950,11 @@ pub fn parse_undo(text: &[u8]) -> Steps {
 
 /// Writes an undo text.
 pub fn format_undo(steps: Steps) -> String {
-    let mut text = [0; 32];
-    // SAFETY: an array of the room that every such text has.
-    let n = unsafe { raw::zib_format_undo_value(steps.left, steps.right, steps.mode.wraps(), &mut text) };
-    String::from_utf8_lossy(&text[..n]).into_owned()
+    // SAFETY: as in `read_tag`; no such text has more than 32 bytes.
+    let text = filled(32, |out, room, written| unsafe {
+        raw::zib_format_undo_value(steps.left, steps.right, steps.mode.wraps(), out, room, written)
+    });
+    String::from_utf8_lossy(&text.unwrap()).into_owned()
 }
 
 /// Gives the undo numbers after a further level by these steps: those of the text less the steps. Where there is no undo item yet, the text
@@ -967,10 +968,9 @@ pub fn accumulate_undo(text: &[u8], left: i32, right: i32) -> (i32, i32) {
 
 /// Writes the text of a range of gains, such as `094,168`.
 pub fn format_minmax(least: u8, greatest: u8) -> String {
-    let mut text = [0; 32];
-    // SAFETY: as in `format_undo`.
-    let n = unsafe { raw::zib_format_minmax(least, greatest, &mut text) };
-    String::from_utf8_lossy(&text[..n]).into_owned()
+    // SAFETY: as in `read_tag`; the text has seven bytes.
+    let text = filled(32, |out, room, written| unsafe { raw::zib_format_minmax(least, greatest, out, room, written) });
+    String::from_utf8_lossy(&text.unwrap()).into_owned()
 }
 
 /// Whether an item is a range (`MP3GAIN_MINMAX` or `MP3GAIN_ALBUM_MINMAX`) and one of its numbers would leave 0..255.
@@ -1087,12 +1087,22 @@ pub fn compare_range_views(text: &[u8]) -> Views {
 
 /// Moves one stored value, a range, a gain text or a peak, by so many steps and gives its new text; `None` where the value stays as it is.
 pub fn shift_stored_value(key: &[u8], value: &[u8], steps: i32) -> Option<String> {
-    let (mut text, mut n) = ([0; 32], 0);
-    // SAFETY: slices by their pointers and lengths, and an array as in `format_undo`.
-    let moved = unsafe {
-        raw::zib_shift_stored_value(key.as_ptr(), key.len(), value.as_ptr(), value.len(), steps, &mut text, &mut n)
-    };
-    moved.then(|| String::from_utf8_lossy(&text[..n]).into_owned())
+    let mut moved = 0;
+    // SAFETY: as in `read_tag`; no such text has more than 32 bytes.
+    let text = filled(32, |out, room, written| unsafe {
+        raw::zib_shift_stored_value(
+            key.as_ptr(),
+            key.len(),
+            value.as_ptr(),
+            value.len(),
+            steps,
+            &mut moved,
+            out,
+            room,
+            written,
+        )
+    });
+    (moved == 1).then(|| String::from_utf8_lossy(&text.unwrap()).into_owned())
 }
 
 /// What a level slip asks for: steps for either side, and the mode, if it names one. [`resolve_mode`] says what a slip without a mode means

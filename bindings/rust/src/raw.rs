@@ -18,7 +18,14 @@ extern "C" {
     pub fn zib_lossy_into(text: *const u8, text_len: usize, out: *mut u8, out_len: usize, written: *mut usize) -> u32;
 
     pub fn zib_parse_undo(text: *const u8, text_len: usize, left: *mut i32, right: *mut i32, wrap: *mut u32) -> u32;
-    pub fn zib_format_undo_value(left: i32, right: i32, wrap: bool, text: *mut [u8; 32]) -> usize;
+    pub fn zib_format_undo_value(
+        left: i32,
+        right: i32,
+        wrap: bool,
+        out: *mut u8,
+        out_len: usize,
+        written: *mut usize,
+    ) -> u32;
     pub fn zib_accumulate_undo(
         text: *const u8,
         text_len: usize,
@@ -27,7 +34,7 @@ extern "C" {
         newleft: *mut i32,
         newright: *mut i32,
     ) -> u32;
-    pub fn zib_format_minmax(least: u8, greatest: u8, text: *mut [u8; 32]) -> usize;
+    pub fn zib_format_minmax(least: u8, greatest: u8, out: *mut u8, out_len: usize, written: *mut usize) -> u32;
     pub fn zib_range_wraps_out(key: *const u8, key_len: usize, value: *const u8, value_len: usize, steps: i32) -> bool;
     pub fn zib_steps_to_db(steps: i32, minus: *mut u32, millionths: *mut u64, rest: *mut u64) -> u32;
     pub fn zib_shift_stored_value(
@@ -36,9 +43,11 @@ extern "C" {
         value: *const u8,
         value_len: usize,
         steps: i32,
-        text: *mut [u8; 32],
+        moved: *mut u32,
+        out: *mut u8,
+        out_len: usize,
         written: *mut usize,
-    ) -> bool;
+    ) -> u32;
     pub fn zib_parse_slip(text: *const u8, text_len: usize, left: *mut i32, right: *mut i32, mode: *mut u32) -> u32;
     pub fn zib_resolve_mode(file: *const u8, file_len: usize, mode: u32, resolved: *mut u32) -> u32;
     pub fn zib_level_by_slip(

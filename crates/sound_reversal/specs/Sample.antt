@@ -1,6 +1,5 @@
 -- An MP3 and a list of level calls that meet the claim's terms: accepted calls, and a refused one.
 use Rattle.std.specs.Prelude.{ℕ, List, [], ◌∷◌, ◌++◌, replicate, ℤ, pos, negsuc}
-use Rattle.frame.specs.declared.GainSteps.{GainSteps}
 use Rattle.frame.specs.declared.GainMode.TheVariants.{Saturating, Wrapping}
 use Rattle.slip.specs.declared.SlipMode.{SlipMode}
 use Rattle.slip.specs.declared.SlipMode.TheVariants.{Named, Unnamed}

@@ -1,17 +1,15 @@
 -- What is found after each write, and in the end: document 02's claims.
 use Prim.Native.Nat.{ℕ, suc, ◌+◌, ◌-◌, ◌≤◌, ◌<◌, max}
 use native.Mathlib.Omega.{arith}
-use native.Mathlib.Numerals.{add-one}
 use mathlib.Core.Path.{◌≡◌, refl, sym, ap, ◌∙◌}
 use mathlib.Core.Bool.{Bool, true, false, ◌&&◌, cond, true≢false, and-eq-true_iff}
 use mathlib.Core.List.{List, [], ◌∷◌, ◌++◌, append_assoc, append-nil}
-use lib.ListN.{length, take, drop, get_or, set, length-append, length-drop, take-append-drop, drop_of_length-le, get_or-append}
+use lib.ListN.{length, take, drop, get_or, set, length-append, take-append-drop, drop_of_length-le, get_or-append}
 use lib.Seq.{length-take-le, take-take, take_at, take-length, take-append-add, take-suc, drop-cons, set_at, get_or-append-add, get_or-take, get_or-drop}
 use lib.Dec.{leb, eqb}
-use borrow.Author.Tests.{leb-true, eqb-true, le-leb}
-use Rattle.lists.specs.Write.{splice, part}
+use borrow.Author.Tests.{leb-true, eqb-true}
+use Rattle.lists.specs.Write.{splice}
 use Rattle.lists.proofs.Halves.{length-splice}
-use Rattle.replies.specs.Refusal.{yes}
 use Rattle.frame.specs.Tail.{ends_with_id3v1, tag_start}
 use Rattle.frame.specs.declared.TagStart.{TagStart}
 use Rattle.frame.specs.declared.TagStart.TheVariants.{At as StartAt, Nowhere as NoStart}
@@ -21,7 +19,6 @@ use Rattle.ape.specs.declared.Footer.{Footer}
 use Rattle.ape.specs.declared.Footer.TheVariants.{At, Nowhere}
 use Rattle.ape_replace.proofs.Cutting.{part-front, cut-is}
 use Rattle.tail_write.specs.Rewrite.{tagless, start_in, block_before, audio_end, behind, Tail, tail, tail_of, length_of, after, length_after}
-use Rattle.tail_write.specs.Answers.{place_in, rewrite_plan}
 use Rattle.torn_tags.specs.Claims.{Rewrites, Claims}
 use Rattle.tail_write.proofs.Sent.{splice-none}
 use Rattle.tail_write.proofs.Placing.{place_is}

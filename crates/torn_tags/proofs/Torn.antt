@@ -1,5 +1,5 @@
 -- What the gate says of a torn file.
-use Prim.Native.Nat.{ℕ, suc, ◌+◌, ◌-◌, ◌*◌, ◌≤◌, ◌<◌}
+use Prim.Native.Nat.{ℕ, ◌+◌, ◌-◌, ◌≤◌, ◌<◌}
 use native.Mathlib.Omega.{arith}
 use native.Mathlib.Nat.{add-zero}
 use mathlib.Core.Path.{◌≡◌, refl, sym, ap, ◌∙◌}
@@ -20,9 +20,8 @@ use Rattle.items.specs.Items.{Item, item_bytes, area_bytes, head_at, head, parse
 use Rattle.utf8.specs.Utf8.{number_of, class_at, run, step_of, valid_from, valid}
 use Rattle.items.proofs.Area.{length-area}
 use Rattle.ape.specs.Tag.{block_bytes, header_flags, footer_flags, tag_bytes, serialize, find_footer, size_at, count_at, area_at, moved, split}
-use Rattle.ape.specs.declared.Footer.{Footer}
 use Rattle.ape.specs.declared.Footer.TheVariants.{At, Nowhere}
-use Rattle.ape.proofs.Files.{length-block, footer-within}
+use Rattle.ape.proofs.Files.{footer-within}
 use Rattle.ape.proofs.Tail.{at-seam}
 use Rattle.calls.specs.Gate.{header_at, is_version2, is_header, is_headed, fit, item_valid, all_valid, gate_items}
 use Rattle.tail_write.specs.Rewrite.{Tail, tail, tagless, start_in, block_before, tail_of, length_of}

@@ -1,5 +1,5 @@
 -- What document 02 says of the rewriting of a file's end, each claim under its sentence; proved in proofs/After.antt for every plan that is carried out.
-use Rattle.std.specs.Prelude.{ℕ, suc, ◌+◌, ◌-◌, ◌≤◌, ◌<◌, max, ◌≡◌, true, false, ◌&&◌, List, [], ◌++◌, length, take, drop, get_or, set, eqb}
+use Rattle.std.specs.Prelude.{ℕ, suc, ◌+◌, ◌≤◌, ◌<◌, max, ◌≡◌, true, false, ◌&&◌, List, [], ◌++◌, length, take, drop, get_or, set, eqb}
 use Rattle.replies.specs.Refusal.{yes}
 use Rattle.frame.specs.Tail.{ends_with_id3v1}
 use Rattle.items.specs.Items.{Item, items_in}

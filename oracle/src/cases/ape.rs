@@ -42,13 +42,7 @@ pub mod library {
             from: *mut usize,
             to: *mut usize,
         ) -> u32;
-        fn zib_cut_ape_tag(
-            file: *const u8,
-            length: usize,
-            front: *mut usize,
-            from: *mut usize,
-            to: *mut usize,
-        ) -> u32;
+        fn zib_cut_ape_tag(file: *const u8, length: usize, front: *mut usize, from: *mut usize, to: *mut usize) -> u32;
         fn zib_replace_ape_tag(
             file: *const u8,
             length: usize,
@@ -583,10 +577,7 @@ fn limits(c: &mut Compare) {
 fn record(r: &mut Record) {
     let words = |w: &[&dyn ToString]| w.iter().map(|x| x.to_string()).collect::<Vec<_>>();
     let tags = small_tags();
-    // A preamble in a file that is one byte too short for a footer.
-    let mut short = vec![0x55; 31];
-    short[..8].copy_from_slice(b"APETAGEX");
-    let mut files = vec![Vec::new(), short, vec![0x55; 159]];
+    let mut files = vec![Vec::new(), vec![0x55; 31], vec![0x55; 159]];
     let mut foot = vec![0x55; 159];
     foot[..8].copy_from_slice(b"APETAGEX");
     foot[31..34].copy_from_slice(b"TAG");
@@ -615,13 +606,22 @@ fn record(r: &mut Record) {
     for tag in &tags {
         r.line(&words(&[&"serialize", &tag.len(), &hex(&area_of(tag)), &hex(&reach::serialize(tag))]));
     }
-    // `split FILE FRONT FROM TO FRONT FROM TO`, by the published split_ape_tag and by ape_tag_parts; `none none` where nothing follows the tag.
+    // `split FILE FRONT FROM TO`, or `split FILE FRONT none` where nothing follows the tag.
+    for file in files.iter().chain(&edge_files()) {
+        let (front, rest) = published_parts(file);
+        let rest = rest.map_or("none".to_string(), |(from, to)| format!("{from} {to}"));
+        r.line(&words(&[&"split", &hex(file), &front, &rest]));
+    }
+    // For the program `cuts_vectors`: `split FILE FRONT FROM TO FRONT FROM TO`, by the published split_ape_tag and by ape_tag_parts; `none none` where
+    // nothing follows the tag. A preamble stands in a file that is one byte too short for a footer.
+    files[1][..8].copy_from_slice(b"APETAGEX");
     for file in files.iter().chain(&edge_files()) {
         let three = |(front, rest): Cut| match rest {
             Some((from, to)) => format!("{front} {from} {to}"),
             None => format!("{front} none none"),
         };
-        r.line(&words(&[&"split", &hex(file), &three(published_split(file)), &three(published_parts(file))]));
+        let cuts = [three(published_split(file)), three(published_parts(file))];
+        r.line_of("cuts", &words(&[&"split", &hex(file), &cuts[0], &cuts[1]]));
     }
     for file in flags::each_type() {
         let (count, area) = published_read(&file).unwrap();

@@ -298,19 +298,20 @@ fn record(r: &mut Record) {
             }
         }
     }
-    // `tally FLAG STEPS FIRST LAST LOW HIGH LOST LEAST GREATEST`, of the gains from the first to the last.
+    // For the program `tally_vectors`: `tally FLAG STEPS FIRST LAST LOW HIGH LOST LEAST GREATEST`, of the gains from the first to the last.
     for (flag, wrap) in [("N", false), ("W", true)] {
         for steps in step_counts().filter(|s| !(-600..=600).contains(s) || (-260..=260).contains(s)) {
             for (first, last) in [(0u8, 255u8), (0, 0), (1, 10), (200, 255)] {
                 let t = published_tally(&(first..=last).collect::<Vec<_>>(), steps, wrap);
+                let asked: [&dyn ToString; 5] = [&"tally", &flag, &steps, &first, &last];
                 let counts: [&dyn ToString; 5] = [&t.low, &t.high, &t.lost, &t.least, &t.greatest];
-                r.line(&words(&[&[&"tally" as &dyn ToString, &flag, &steps, &first, &last][..], &counts].concat()));
+                r.line_of("tally", &words(&[asked, counts].concat()));
             }
         }
     }
-    // `end FILE PLACE`: where the sound ends.
+    // For the same: `end FILE PLACE`, where the sound ends.
     for file in ape::edge_files().iter().filter(|f| f.len() <= 1024) {
-        r.line(&words(&[&"end", &hex(file), &find_audio_end(file)]));
+        r.line_of("tally", &words(&[&"end", &hex(file), &find_audio_end(file)]));
     }
     for (before, mark) in [(0, "TAG"), (1, "TAG"), (3, "TAGTAG"), (2, "TAf"), (0, "TA"), (5, "TAG")] {
         for after in [124, 125, 126] {

@@ -61,8 +61,9 @@ pub fn some_text(rng: &mut Rng) -> String {
 
 /// The library's new text, by one call.
 fn ours(text: &[u8], steps: i32) -> Option<Vec<u8>> {
-    let (mut new, mut n) = ([0; 32], 0);
-    library::shift_into(TRACK_PEAK.as_bytes(), text, steps, &mut new, &mut n).then(|| new[..n].to_vec())
+    let (mut moved, mut out, mut n) = (7, [0; 32], 0);
+    assert_eq!(library::shift_into(TRACK_PEAK.as_bytes(), text, steps, &mut moved, &mut out, &mut n), 0);
+    (moved == 1).then(|| out[..n].to_vec())
 }
 
 /// How many texts were held to the reading, how many of these moved, and how many of those the Rust moves to another text.

@@ -20,7 +20,14 @@ pub const CASE: Case = Case { name: "values", record, compare, bench };
 pub mod library {
     extern "C" {
         fn zib_parse_undo(text: *const u8, length: usize, left: *mut i32, right: *mut i32, mode: *mut u32) -> u32;
-        fn zib_format_undo_value(left: i32, right: i32, wrap: bool, text: *mut [u8; 32]) -> usize;
+        fn zib_format_undo_value(
+            left: i32,
+            right: i32,
+            wrap: bool,
+            out: *mut u8,
+            room: usize,
+            written: *mut usize,
+        ) -> u32;
         fn zib_accumulate_undo(
             text: *const u8,
             length: usize,
@@ -29,7 +36,7 @@ pub mod library {
             newleft: *mut i32,
             newright: *mut i32,
         ) -> u32;
-        fn zib_format_minmax(least: u8, greatest: u8, text: *mut [u8; 32]) -> usize;
+        fn zib_format_minmax(least: u8, greatest: u8, out: *mut u8, room: usize, written: *mut usize) -> u32;
         fn zib_range_wraps_out(
             key: *const u8,
             key_length: usize,
@@ -44,9 +51,11 @@ pub mod library {
             value: *const u8,
             value_length: usize,
             steps: i32,
-            text: *mut [u8; 32],
+            moved: *mut u32,
+            out: *mut u8,
+            room: usize,
             written: *mut usize,
-        ) -> bool;
+        ) -> u32;
         fn zib_parse_slip(text: *const u8, length: usize, left: *mut i32, right: *mut i32, mode: *mut u32) -> u32;
     }
 
@@ -58,8 +67,8 @@ pub mod library {
         ((left, right), wrap == 1)
     }
 
-    pub fn format_undo_into(left: i32, right: i32, wrap: bool, text: &mut [u8; 32]) -> usize {
-        unsafe { zib_format_undo_value(left, right, wrap, text) }
+    pub fn format_undo_into(left: i32, right: i32, wrap: bool, out: &mut [u8], written: &mut usize) -> u32 {
+        unsafe { zib_format_undo_value(left, right, wrap, out.as_mut_ptr(), out.len(), written) }
     }
 
     pub fn accumulate_undo(text: &[u8], left: i32, right: i32) -> (i32, i32) {
@@ -69,8 +78,8 @@ pub mod library {
         (a, b)
     }
 
-    pub fn format_minmax_into(least: u8, greatest: u8, text: &mut [u8; 32]) -> usize {
-        unsafe { zib_format_minmax(least, greatest, text) }
+    pub fn format_minmax_into(least: u8, greatest: u8, out: &mut [u8], written: &mut usize) -> u32 {
+        unsafe { zib_format_minmax(least, greatest, out.as_mut_ptr(), out.len(), written) }
     }
 
     pub fn range_wraps_out(key: &[u8], value: &[u8], steps: i32) -> bool {
@@ -84,9 +93,18 @@ pub mod library {
         (minus == 1, millionths, rest)
     }
 
-    pub fn shift_into(key: &[u8], value: &[u8], steps: i32, text: &mut [u8; 32], written: &mut usize) -> bool {
-        let (k, v) = (key.as_ptr(), value.as_ptr());
-        unsafe { zib_shift_stored_value(k, key.len(), v, value.len(), steps, text, written) }
+    pub fn shift_into(
+        key: &[u8],
+        value: &[u8],
+        steps: i32,
+        moved: &mut u32,
+        out: &mut [u8],
+        written: &mut usize,
+    ) -> u32 {
+        unsafe {
+            let (k, v, o) = (key.as_ptr(), value.as_ptr(), out.as_mut_ptr());
+            zib_shift_stored_value(k, key.len(), v, value.len(), steps, moved, o, out.len(), written)
+        }
     }
 
     /// The steps and the flag, if the slip names one.
@@ -108,31 +126,48 @@ pub mod library {
 /// What fills an output before a call, to see which bytes it changed.
 const FILL: u8 = 0xC3;
 
-/// The text that a call writes; the bytes behind it stay as they were.
-fn text_of(call: impl FnOnce(&mut [u8; 32]) -> usize) -> Vec<u8> {
-    let mut text = [FILL; 32];
-    let n = call(&mut text);
-    assert!(text[n..].iter().all(|&b| b == FILL), "wrote past its length");
-    text[..n].to_vec()
+/// What a call leaves in lent numbers that it does not touch.
+const UNTOUCHED: usize = 77;
+
+/// A call that writes a text, tried with ample room, with exact room, and with one byte less.
+fn text_of(call: impl Fn(&mut [u8], &mut usize) -> u32) -> Vec<u8> {
+    let (mut out, mut n) = ([FILL; 40], UNTOUCHED);
+    assert_eq!(call(&mut out, &mut n), 0);
+    assert!(out[n..].iter().all(|&b| b == FILL), "wrote past its length");
+    let (mut exact, mut m) = ([FILL; 40], UNTOUCHED);
+    assert_eq!((call(&mut exact[..n], &mut m), m), (0, n), "exact room");
+    assert!(exact == out, "exact room, other bytes");
+    if n > 0 {
+        let (mut short, mut m) = ([FILL; 40], UNTOUCHED);
+        assert_eq!((call(&mut short[..n - 1], &mut m), m), (5, UNTOUCHED), "one byte short");
+        assert!(short == [FILL; 40], "one byte short, and wrote");
+    }
+    out[..n].to_vec()
 }
 
 fn our_undo_text(left: i32, right: i32, wrap: bool) -> Vec<u8> {
-    text_of(|text| library::format_undo_into(left, right, wrap, text))
+    text_of(|out, n| library::format_undo_into(left, right, wrap, out, n))
 }
 
 fn our_minmax(least: u8, greatest: u8) -> Vec<u8> {
-    text_of(|text| library::format_minmax_into(least, greatest, text))
+    text_of(|out, n| library::format_minmax_into(least, greatest, out, n))
 }
 
 /// The new text, or none where the value stays as found.
 pub fn our_shift(key: &str, value: &[u8], steps: i32) -> Option<Vec<u8>> {
-    let (mut moved, mut n) = (false, 77);
-    let text = text_of(|text| {
-        moved = library::shift_into(key.as_bytes(), value, steps, text, &mut n);
-        n
-    });
-    assert!(moved || n == 0, "stays as found, and wrote");
-    moved.then_some(text)
+    let key = key.as_bytes();
+    let (mut moved, mut out, mut n) = (7, [FILL; 40], UNTOUCHED);
+    assert_eq!(library::shift_into(key, value, steps, &mut moved, &mut out, &mut n), 0);
+    if moved == 0 {
+        assert!(n == 0 && out == [FILL; 40], "stays as found, and wrote");
+        return None;
+    }
+    Some(text_of(|out, n| {
+        let mut flag = 7;
+        let reply = library::shift_into(key, value, steps, &mut flag, out, n);
+        assert_eq!(flag, if reply == 0 { 1 } else { 7 });
+        reply
+    }))
 }
 
 // ---- document 01, read a second time
@@ -854,9 +889,9 @@ fn bench(b: &mut Bench) {
         "format_undo_value",
         || published_format(black_box(3), black_box(-12), false),
         || {
-            let mut text = [0; 32];
-            let n = library::format_undo_into(black_box(3), black_box(-12), false, &mut text);
-            (text, n)
+            let (mut out, mut n) = ([0; 32], 0);
+            library::format_undo_into(black_box(3), black_box(-12), false, &mut out, &mut n);
+            (out, n)
         },
     );
     b.row(
@@ -868,9 +903,9 @@ fn bench(b: &mut Bench) {
         "format_minmax",
         || published_range(black_box(94), black_box(168)),
         || {
-            let mut text = [0; 32];
-            let n = library::format_minmax_into(black_box(94), black_box(168), &mut text);
-            (text, n)
+            let (mut out, mut n) = ([0; 32], 0);
+            library::format_minmax_into(black_box(94), black_box(168), &mut out, &mut n);
+            (out, n)
         },
     );
     let steps = black_box(-7);
@@ -885,9 +920,9 @@ fn bench(b: &mut Bench) {
             &format!("shift_stored_value, {what}"),
             || published_shifted(key, value, steps),
             || {
-                let (mut text, mut n) = ([0; 32], 0);
-                let moved = library::shift_into(key.as_bytes(), value.as_bytes(), steps, &mut text, &mut n);
-                (moved, text, n)
+                let (mut moved, mut out, mut n) = (0, [0; 32], 0);
+                library::shift_into(key.as_bytes(), value.as_bytes(), steps, &mut moved, &mut out, &mut n);
+                (moved, out, n)
             },
         );
     }
@@ -897,9 +932,9 @@ fn bench(b: &mut Bench) {
         "shift_stored_value, 1,000 peaks of every size by -30 to 30 steps",
         || texts.iter().filter(|(text, steps)| published_shifted(TRACK_PEAK, text, *steps).is_some()).count(),
         || {
-            let (mut new, mut n) = ([0; 32], 0);
+            let (mut moved, mut out, mut n) = (0, [0; 32], 0);
             let shift = |(text, steps): &&(String, i32)| {
-                library::shift_into(TRACK_PEAK.as_bytes(), text.as_bytes(), *steps, &mut new, &mut n)
+                library::shift_into(TRACK_PEAK.as_bytes(), text.as_bytes(), *steps, &mut moved, &mut out, &mut n) == 0
             };
             texts.iter().filter(shift).count()
         },

@@ -1,5 +1,4 @@
 use mathlib.Core.Path.{ap, ◌∙◌}
-use borrow.Author.Rules.{rules}
 use Rattle.c_fixed_ranges.specs.FixedFace.{views_number}
 use Rattle.c_fixed_ranges.proofs.zib_compare_range_views.Goals as goal
 

@@ -1,5 +1,4 @@
 use mathlib.Core.Path.{sym, refl, ◌∙◌}
-use borrow.Author.Rules.{rules}
 use Rattle.fixed_ranges.specs.Fixed.{fixed}
 use Rattle.fixed_ranges.proofs.Digits.{value-fixed, no-fixed}
 use Rattle.c_fixed_ranges.proofs.zib_fixed_range.Goals as goal

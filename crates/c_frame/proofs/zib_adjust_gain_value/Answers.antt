@@ -1,6 +1,5 @@
 use mathlib.Core.Path.{◌∙◌}
 use mir.Facts.{to_z-of_z}
-use borrow.Author.Rules.{rules}
 use Rattle.c_frame.proofs.zib_adjust_gain_value.Goals as goal
 
 pub returns : goal.returns
