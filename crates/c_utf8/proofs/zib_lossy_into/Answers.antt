@@ -1,5 +1,4 @@
 use mathlib.Core.Path.{refl}
-use borrow.Author.Rules.{rules}
 use Rattle.c_utf8.proofs.zib_lossy_into.Goals as goal
 
 pub returns-in-Done : goal.returns-in-Done

@@ -1,5 +1,4 @@
 use mathlib.Core.Path.{◌≡◌, refl, sym, ◌∙◌}
-use borrow.Author.Rules.{rules}
 use Rattle.lossy.specs.Lossy.{lossy}
 use Rattle.lossy.specs.Write.{within, answer}
 use Rattle.lossy.specs.declared.Converted.TheVariants.{Done, NoRoom}

@@ -57,8 +57,12 @@ stands c =
     let w = c.write_without-n.ensures in
     read_back ((without (dropped c.args.what c.args.key.now) (items_in c.args.count ((part c.args.start c.args.end c.args.file.now))))) (array c) _ c.write_without-n.result c.in-Size.left w.1 w.0 ((let it : c.in-Size.left ≡ length ((without (dropped c.args.what c.args.key.now) (items_in c.args.count ((part c.args.start c.args.end c.args.file.now))))) = (sized (without (dropped c.args.what c.args.key.now)) c.args.count ((part c.args.start c.args.end c.args.file.now)) c.in-Size.left c.in-Size.length (sym c.in-Size.is ∙ c.measure_without-m.ensures)).count in it))
     (sane-without (dropped c.args.what c.args.key.now) (items_in c.args.count ((part c.args.start c.args.end c.args.file.now))) (passed-sane c.requires.0))
-    (omega (arith, (let it : length (area_bytes ((without (dropped c.args.what c.args.key.now) (items_in c.args.count ((part c.args.start c.args.end c.args.file.now)))))) ≤ c.args.end - c.args.start = let g = c.args in
-    omega (arith, area-without (dropped g.what g.key.now) (items_in g.count ((part c.args.start c.args.end c.args.file.now))), area-length g.count ((part c.args.start c.args.end c.args.file.now)) c.requires.0.good, length_part g.start g.end g.file.now c.requires.0.within) in it), c.requires.0.short))
+    (omega (
+      arith,
+      (let it : length (area_bytes ((without (dropped c.args.what c.args.key.now) (items_in c.args.count ((part c.args.start c.args.end c.args.file.now)))))) ≤ c.args.end - c.args.start = let g = c.args in
+          omega (arith, area-without (dropped g.what g.key.now) (items_in g.count ((part c.args.start c.args.end c.args.file.now))), area-length g.count ((part c.args.start c.args.end c.args.file.now)) c.requires.0.good, length_part g.start g.end g.file.now c.requires.0.within) in it),
+      c.requires.0.short,
+    ))
 
 pub finish-requires : goal.finish-requires
 finish-requires c =

@@ -52,8 +52,17 @@ stands c =
     let w = c.write_set-m.ensures in
     read_back ((set_item c.args.key.now c.args.value.now (items_in c.args.count ((part c.args.start c.args.end c.args.file.now))))) (array c) _ c.write_set-m.result.length c.write_set-m.result.count w.2 w.1 w.0
     (sane-set g.key.now g.value.now (items_in g.count ((part c.args.start c.args.end c.args.file.now))) (sane-key g.key.now c.requires.2) (passed-sane c.requires.0))
-    (omega (arith, (let it : length (area_bytes ((set_item c.args.key.now c.args.value.now (items_in c.args.count ((part c.args.start c.args.end c.args.file.now)))))) ≤ 66048 = omega (arith, (let it : length (area_bytes ((set_item c.args.key.now c.args.value.now (items_in c.args.count ((part c.args.start c.args.end c.args.file.now)))))) ≤ c.args.end - c.args.start + 9 + length c.args.key.now + length c.args.value.now = let g = c.args in
-    omega (arith, area_set g.key.now g.value.now (items_in g.count ((part c.args.start c.args.end c.args.file.now))), area-length g.count ((part c.args.start c.args.end c.args.file.now)) c.requires.0.good, length_part g.start g.end g.file.now c.requires.0.within) in it), c.requires.0.short, key-length c.args.key.now c.requires.2, c.requires.3) in it)))
+    (omega (
+      arith,
+      (let it : length (area_bytes ((set_item c.args.key.now c.args.value.now (items_in c.args.count ((part c.args.start c.args.end c.args.file.now)))))) ≤ 66048 = omega (
+        arith,
+        (let it : length (area_bytes ((set_item c.args.key.now c.args.value.now (items_in c.args.count ((part c.args.start c.args.end c.args.file.now)))))) ≤ c.args.end - c.args.start + 9 + length c.args.key.now + length c.args.value.now = let g = c.args in
+            omega (arith, area_set g.key.now g.value.now (items_in g.count ((part c.args.start c.args.end c.args.file.now))), area-length g.count ((part c.args.start c.args.end c.args.file.now)) c.requires.0.good, length_part g.start g.end g.file.now c.requires.0.within) in it),
+        c.requires.0.short,
+        key-length c.args.key.now c.requires.2,
+        c.requires.3,
+      ) in it),
+    ))
 
 pub finish-requires : goal.finish-requires
 finish-requires c =

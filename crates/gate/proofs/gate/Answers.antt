@@ -97,11 +97,16 @@ area c =
     let s = c.args.file.now in
     let f = c.in-At.footer in
     let n = c.read_u32_le-size.result in
-    area-part s f (f + 32 - n) n (sym c.read_u32_le-size.ensures) (omega (arith, (let it : let s = c.args.file.now in let f = c.in-At.footer in
-    (size_at s f ≤ 32800) × (c.read_u32_le-size.result ≤ f + 32) = let s = c.args.file.now in
-    let f = c.in-At.footer in
-    let z = c.read_u32_le-size.ensures in
-    (omega (arith, z, c.if-size.false), omega (arith, z, start-size s f c.in-At-s.tag ((let it : tag_start c.args.file.now c.in-At.footer ≡ StartAt c.in-At-s.tag = sym c.ape_tag_start-s.ensures ∙ c.in-At-s.is in it)))) in it), (let it : 32 ≤ size_at c.args.file.now c.in-At.footer = omega (arith, c.read_u32_le-size.ensures, c.if-size-lt32.false) in it), c.read_u32_le-size.ensures)) (λ h. refl)
+    area-part s f (f + 32 - n) n (sym c.read_u32_le-size.ensures) (omega (
+      arith,
+      (let it : let s = c.args.file.now in let f = c.in-At.footer in
+          (size_at s f ≤ 32800) × (c.read_u32_le-size.result ≤ f + 32) = let s = c.args.file.now in
+          let f = c.in-At.footer in
+          let z = c.read_u32_le-size.ensures in
+          (omega (arith, z, c.if-size.false), omega (arith, z, start-size s f c.in-At-s.tag ((let it : tag_start c.args.file.now c.in-At.footer ≡ StartAt c.in-At-s.tag = sym c.ape_tag_start-s.ensures ∙ c.in-At-s.is in it)))) in it),
+      (let it : 32 ≤ size_at c.args.file.now c.in-At.footer = omega (arith, c.read_u32_le-size.ensures, c.if-size-lt32.false) in it),
+      c.read_u32_le-size.ensures,
+    )) (λ h. refl)
 
 clean : (c : After-is_clean) → (t : Bool) → c.is_clean.result ≡ t
     → let s = c.args.file.now in

@@ -33,11 +33,10 @@ loop-k-preserved c =
     )
 
 pub loop-i-preserved : goal.loop-i-preserved
-loop-i-preserved c =
-    (
-      omega (arith, c.loop-i-test.true),
-      all-at printable c.args.s.now (c.loop-i.i + c.loop-k.k) c.loop-k.invariant.1 (c.loop-i.i + 4) (omega (arith, c.loop-k-test.false, c.loop-k.invariant.0)),
-    )
+loop-i-preserved c = (
+  omega (arith, c.loop-i-test.true),
+  all-at printable c.args.s.now (c.loop-i.i + c.loop-k.k) c.loop-k.invariant.1 (c.loop-i.i + 4) (omega (arith, c.loop-k-test.false, c.loop-k.invariant.0)),
+)
 
 pub returns-then-not-is_printable-2 : goal.returns-then-not-is_printable-2
 returns-then-not-is_printable-2 c =

@@ -54,8 +54,13 @@ stands c =
     let w = c.write_items-m.ensures.0 in
     read_back ((ranged_items ((record { left = c.args.left_steps.0; right = c.args.right_steps.0; mode = c.args.mode })) c.args.undo c.args.range (items_in c.args.count ((part c.args.start c.args.end c.args.file.now))))) (array c) _ c.write_items-m.result.length c.write_items-m.result.count w.2 w.1 w.0
     (ranged-sane ((record { left = c.args.left_steps.0; right = c.args.right_steps.0; mode = c.args.mode })) c.args.undo c.args.range (items_in c.args.count ((part c.args.start c.args.end c.args.file.now))) (passed-sane c.requires.0))
-    (omega (arith, (let it : length (area_bytes ((ranged_items ((record { left = c.args.left_steps.0; right = c.args.right_steps.0; mode = c.args.mode })) c.args.undo c.args.range (items_in c.args.count ((part c.args.start c.args.end c.args.file.now)))))) ≤ c.args.end - c.args.start + 32 * c.args.count + 76 = let ts = items_in c.args.count ((part c.args.start c.args.end c.args.file.now)) in
-    omega (arith, ranged-short ((record { left = c.args.left_steps.0; right = c.args.right_steps.0; mode = c.args.mode })) c.args.undo c.args.range ts, count-items c.args.count ((part c.args.start c.args.end c.args.file.now)) c.requires.0.good, area-length c.args.count ((part c.args.start c.args.end c.args.file.now)) c.requires.0.good, (let it : length ((part c.args.start c.args.end c.args.file.now)) ≡ c.args.end - c.args.start = length_part c.args.start c.args.end c.args.file.now c.requires.0.within in it)) in it), c.requires.0.short, c.requires.0.few))
+    (omega (
+      arith,
+      (let it : length (area_bytes ((ranged_items ((record { left = c.args.left_steps.0; right = c.args.right_steps.0; mode = c.args.mode })) c.args.undo c.args.range (items_in c.args.count ((part c.args.start c.args.end c.args.file.now)))))) ≤ c.args.end - c.args.start + 32 * c.args.count + 76 = let ts = items_in c.args.count ((part c.args.start c.args.end c.args.file.now)) in
+          omega (arith, ranged-short ((record { left = c.args.left_steps.0; right = c.args.right_steps.0; mode = c.args.mode })) c.args.undo c.args.range ts, count-items c.args.count ((part c.args.start c.args.end c.args.file.now)) c.requires.0.good, area-length c.args.count ((part c.args.start c.args.end c.args.file.now)) c.requires.0.good, (let it : length ((part c.args.start c.args.end c.args.file.now)) ≡ c.args.end - c.args.start = length_part c.args.start c.args.end c.args.file.now c.requires.0.within in it)) in it),
+      c.requires.0.short,
+      c.requires.0.few,
+    ))
 
 pub filed-requires : goal.filed-requires
 filed-requires c =

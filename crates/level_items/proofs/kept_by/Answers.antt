@@ -41,21 +41,19 @@ kept c = c.keeps_peak.ensures ∙ ap₂ (λ (a b : List ℕ). (keeps_peak c.args
 
 pub loop-left-preserved-then-keeps_peak : goal.loop-left-preserved-then-keeps_peak
 unfolding here
-loop-left-preserved-then-keeps_peak c =
-    (
-      (here (goal.at.loop-left-preserved-then-keeps_peak c).In-Item).rest,
-      omega (arith, c.loop-left.invariant.1, c.loop-left-test.true),
-      omega (arith, split (goal.at.loop-left-preserved-then-keeps_peak c).In-Item, count-one (test (goal.at.loop-left-preserved-then-keeps_peak c).In-Item) (here (goal.at.loop-left-preserved-then-keeps_peak c).In-Item).item (tail (goal.at.loop-left-preserved-then-keeps_peak c).In-Item) (sym (kept (goal.at.loop-left-preserved-then-keeps_peak c).After-keeps_peak) ∙ c.if-keeps_peak.true)),
-    )
+loop-left-preserved-then-keeps_peak c = (
+  (here (goal.at.loop-left-preserved-then-keeps_peak c).In-Item).rest,
+  omega (arith, c.loop-left.invariant.1, c.loop-left-test.true),
+  omega (arith, split (goal.at.loop-left-preserved-then-keeps_peak c).In-Item, count-one (test (goal.at.loop-left-preserved-then-keeps_peak c).In-Item) (here (goal.at.loop-left-preserved-then-keeps_peak c).In-Item).item (tail (goal.at.loop-left-preserved-then-keeps_peak c).In-Item) (sym (kept (goal.at.loop-left-preserved-then-keeps_peak c).After-keeps_peak) ∙ c.if-keeps_peak.true)),
+)
 
 pub loop-left-preserved : goal.loop-left-preserved
 unfolding here
-loop-left-preserved c =
-    (
-      (here (goal.at.loop-left-preserved c).In-Item).rest,
-      omega (arith, c.loop-left.invariant.1, c.loop-left-test.true),
-      omega (arith, split (goal.at.loop-left-preserved c).In-Item, count_next (test (goal.at.loop-left-preserved c).In-Item) (here (goal.at.loop-left-preserved c).In-Item).item (tail (goal.at.loop-left-preserved c).In-Item) (sym (kept (goal.at.loop-left-preserved c).After-keeps_peak) ∙ c.if-keeps_peak.false)),
-    )
+loop-left-preserved c = (
+  (here (goal.at.loop-left-preserved c).In-Item).rest,
+  omega (arith, c.loop-left.invariant.1, c.loop-left-test.true),
+  omega (arith, split (goal.at.loop-left-preserved c).In-Item, count_next (test (goal.at.loop-left-preserved c).In-Item) (here (goal.at.loop-left-preserved c).In-Item).item (tail (goal.at.loop-left-preserved c).In-Item) (sym (kept (goal.at.loop-left-preserved c).After-keeps_peak) ∙ c.if-keeps_peak.false)),
+)
 
 pub returns : goal.returns
 returns c =

@@ -59,10 +59,11 @@ pub returns-in_default-parse_natural : goal.returns-in_default-parse_natural
 returns-in_default-parse_natural c =
     let j = (goal.at.returns-in_default-parse_natural c).Else-s-e-ne7 in
     let a = c.in-Value.a in
-    rw
-    ( form j
-    , value-is (natural (before 46 (text j))) a (sym c.in-Value.is ∙ c.parse_natural.ensures ∙ front j)
-    , nothing_is (natural (last j)) (sym c.in_default-parse_natural.is ∙ c.parse_natural-2.ensures ∙ back j))
+    rw (
+      form j,
+      value-is (natural (before 46 (text j))) a (sym c.in-Value.is ∙ c.parse_natural.ensures ∙ front j),
+      nothing_is (natural (last j)) (sym c.in_default-parse_natural.is ∙ c.parse_natural-2.ensures ∙ back j),
+    )
 
 -- the number before the point has at most two digits
 pub overflow_mul-result : goal.overflow_mul-result
@@ -72,15 +73,17 @@ overflow_mul-result c = omega (arith, within 99 c.in-Value.a (take (c.find_byte-
 pub overflow_add-result : goal.overflow_add-result
 overflow_add-result c =
     let j = (goal.at.overflow_add-result c).Else-s-e-ne7 in
-    omega
-    ( arith
-    , within 99 c.in-Value.a (take (c.find_byte-e.result - 0) c.args.s.now) (sym c.in-Value.is ∙ c.parse_natural.ensures)
-    , within 999999 c.in-Value-parse_natural.b (last j) (sym c.in-Value-parse_natural.is ∙ c.parse_natural-2.ensures))
+    omega (
+      arith,
+      within 99 c.in-Value.a (take (c.find_byte-e.result - 0) c.args.s.now) (sym c.in-Value.is ∙ c.parse_natural.ensures),
+      within 999999 c.in-Value-parse_natural.b (last j) (sym c.in-Value-parse_natural.is ∙ c.parse_natural-2.ensures),
+    )
 
 pub returns : goal.returns
 returns c =
     let j = (goal.at.returns c).Else-s-e-ne7 in
-    rw
-    ( form j
-    , value-is (natural (before 46 (text j))) c.in-Value.a (sym c.in-Value.is ∙ c.parse_natural.ensures ∙ front j)
-    , value-is (natural (last j)) c.in-Value-parse_natural.b (sym c.in-Value-parse_natural.is ∙ c.parse_natural-2.ensures ∙ back j))
+    rw (
+      form j,
+      value-is (natural (before 46 (text j))) c.in-Value.a (sym c.in-Value.is ∙ c.parse_natural.ensures ∙ front j),
+      value-is (natural (last j)) c.in-Value-parse_natural.b (sym c.in-Value-parse_natural.is ∙ c.parse_natural-2.ensures ∙ back j),
+    )

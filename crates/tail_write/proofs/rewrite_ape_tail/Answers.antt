@@ -18,8 +18,7 @@ enough : (b : Start) → (t : Tail) → plan b ≡ yes t → length t.bytes < 0x
 enough b t e = omega (arith, (plan-fits b.args.buf.now b.args.total b.args.area.now b.args.count t e).3)
 
 pub returns : goal.returns
-returns c =
-    (
-      c.rewrite_within.ensures.0 ∙ whole-answer c.args.total 0xFFFFFFFFFFFFFFFF (plan (goal.at.returns c).Start) (enough (goal.at.returns c).Start),
-      c.rewrite_within.ensures.1 ∙ whole-buffer c.args.total 0xFFFFFFFFFFFFFFFF (plan (goal.at.returns c).Start) c.args.buf.now (enough (goal.at.returns c).Start),
-    )
+returns c = (
+  c.rewrite_within.ensures.0 ∙ whole-answer c.args.total 0xFFFFFFFFFFFFFFFF (plan (goal.at.returns c).Start) (enough (goal.at.returns c).Start),
+  c.rewrite_within.ensures.1 ∙ whole-buffer c.args.total 0xFFFFFFFFFFFFFFFF (plan (goal.at.returns c).Start) c.args.buf.now (enough (goal.at.returns c).Start),
+)
