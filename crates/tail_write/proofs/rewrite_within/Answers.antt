@@ -28,7 +28,7 @@ returns-then-total-gt-FILE_LIMIT c =
 
 -- and within the limit
 short : (c : Else-total-gt-FILE_LIMIT) → length (take c.args.total c.args.buf.now) ≤ 16777216
-short c = omega (arith, (let it : length (take c.args.total c.args.buf.now) ≡ c.args.total = let g = c.args in length-take-le g.total g.buf.now c.if-buf-total.false in it))
+short c = omega (arith, length-take-le c.args.total c.args.buf.now c.if-buf-total.false)
 
 pub returns-then-not-well_formed : goal.returns-then-not-well_formed
 unfolding rewrite_plan
