@@ -133,16 +133,16 @@ static void call(int which, int way, int tag)
     case 23: zib_set_minmax(area, area_len, count, 0, 255, out, sizeof out, &a, &b); break;
     case 24: zib_set_replaygain(area, area_len, count, v, vn, v, vn, v, vn, v, vn, v, vn, out, sizeof out, &a, &b); break;
     case 25: zib_parse_undo(ZIB_TEXT("+003,-012,N"), &l, &r, &t); break;
-    case 26: zib_format_undo_value(-2147483647, 2147483647, true, out); break;
+    case 26: zib_format_undo_value(-2147483647, 2147483647, true, out, sizeof out, &a); break;
     case 27: zib_accumulate_undo(ZIB_TEXT("+003,-012,N"), 5, -5, &l, &r); break;
-    case 28: zib_format_minmax(94, 168, out); break;
+    case 28: zib_format_minmax(94, 168, out, sizeof out, &a); break;
     case 29: zib_range_wraps_out(ZIB_TEXT("MP3GAIN_MINMAX"), ZIB_TEXT("094,168"), 100); break;
     case 30: zib_steps_to_db(-2147483647, &t, &m, &e); break;
     case 31:
         if (way == 0)
-            zib_shift_stored_value(ZIB_TEXT("MP3GAIN_MINMAX"), ZIB_TEXT("094,168"), 100, out, &a);
+            zib_shift_stored_value(ZIB_TEXT("MP3GAIN_MINMAX"), ZIB_TEXT("094,168"), 100, &t, out, sizeof out, &a);
         else
-            zib_shift_stored_value(ZIB_TEXT("REPLAYGAIN_TRACK_GAIN"), ZIB_TEXT("-3.500000 dB"), 200, out, &a);
+            zib_shift_stored_value(ZIB_TEXT("REPLAYGAIN_TRACK_GAIN"), ZIB_TEXT("-3.500000 dB"), 200, &t, out, sizeof out, &a);
         break;
     case 32: zib_parse_slip(ZIB_TEXT("left=-3\nright=+4\nmode=W\n"), &l, &r, &t); break;
     case 33: zib_is_utf8(way == 0 ? v : area, way == 0 ? 15 : area_len); break;

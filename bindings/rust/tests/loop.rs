@@ -24,6 +24,7 @@ struct Kind {
 }
 
 const STEREO: Kind = Kind { version: 3, mode: 0, crc: false };
+const JOINT: Kind = Kind { version: 3, mode: 1, crc: false };
 const MONO: Kind = Kind { version: 3, mode: 3, crc: false };
 
 /// A generator of bytes.
@@ -81,6 +82,10 @@ impl Loop {
             self.bytes.push(fill());
         }
         self.ends.push(self.bytes.len());
+        if kind.crc {
+            let sum = sum(&self.bytes[start + 2..start + 4], &self.bytes[side..side + bits.len() / 8]);
+            self.bytes[start + 4..start + 6].copy_from_slice(&sum);
+        }
     }
 
     /// Frames of one kind.
@@ -90,7 +95,7 @@ impl Loop {
         new
     }
 
-    /// The bytes after a level of the frames that end by `end`.
+    /// The bytes after a level of the frames that end by `end`, check sums aside.
     fn levelled(&self, end: usize, steps: [i32; 2], wrap: bool) -> Vec<u8> {
         let mut bytes = self.bytes.clone();
         for &(_, channel, bit) in self.gains.iter().filter(|gain| self.ends[gain.0] <= end) {
@@ -113,6 +118,20 @@ fn gain_at(bytes: &[u8], bit: usize) -> u8 {
     (bit..bit + 8).fold(0, |n, b| n << 1 | bytes[b / 8] >> (7 - b % 8) & 1)
 }
 
+/// The rest of the bits, begun with ones, by the polynomial of 16, 15, 2 and 0: long division.
+fn sum(header: &[u8], side: &[u8]) -> [u8; 2] {
+    let bits = header.iter().chain(side).flat_map(|b| (0..8).map(move |i| b >> (7 - i) & 1));
+    let mut message: Vec<u8> = bits.chain([0; 16]).collect();
+    message[..16].iter_mut().for_each(|b| *b ^= 1);
+    for at in 0..message.len() - 16 {
+        if message[at] == 1 {
+            [0, 1, 14, 16].iter().for_each(|i| message[at + i] ^= 1);
+        }
+    }
+    let rest = &message[message.len() - 16..];
+    [rest[..8].iter().fold(0, |n, b| n << 1 | b), rest[8..].iter().fold(0, |n, b| n << 1 | b)]
+}
+
 fn level(file: &[u8], left: i32, right: i32, mode: Mode) -> Vec<u8> {
     changed(file, Call::Level(left, right, mode)).unwrap().0
 }
@@ -121,18 +140,14 @@ fn undo(file: &[u8]) -> Vec<u8> {
     changed(file, Call::Undo).unwrap().0
 }
 
-/// How the example says a refusal.
-fn refused(why: Refusal) -> String {
-    format!("{why} (refusal {})", why.number())
-}
-
 fn item(file: &[u8], key: &str) -> String {
     let items = read_tag(file).unwrap().unwrap();
     String::from_utf8(items.get(key.as_bytes()).unwrap().unwrap().to_vec()).unwrap()
 }
 
 fn kinds() -> impl Iterator<Item = Kind> {
-    [3, 2].into_iter().flat_map(|version| (0..4).map(move |mode| Kind { version, mode, crc: false }))
+    let all = |version| (0..4).flat_map(move |mode| [false, true].map(|crc| Kind { version, mode, crc }));
+    [3, 2, 0].into_iter().flat_map(all)
 }
 
 #[test]
@@ -140,9 +155,24 @@ fn every_kind_comes_back() {
     for (kind, seed) in kinds().zip(1..) {
         let new = Loop::of(kind, 5, seed);
         for (left, right, mode) in [(7, 7, N), (-100, -100, N), (200, 200, W), (7, -3, W), (0, 1, N)] {
+            if left != right && kind.mode == 1 {
+                continue;
+            }
             let steps = [left, if kind.mode == 3 { left } else { right }];
             let file = level(&new.bytes, left, right, mode);
-            let moved = new.levelled(new.bytes.len(), steps, mode == W);
+            let mut moved = new.levelled(new.bytes.len(), steps, mode == W);
+            if kind.crc {
+                for start in (0..5).map(|i| i * new.bytes.len() / 5) {
+                    let size = match (kind.version, kind.mode) {
+                        (3, 3) => 17,
+                        (3, _) => 32,
+                        (_, 3) => 9,
+                        _ => 17,
+                    };
+                    let right = sum(&moved[start + 2..start + 4], &moved[start + 6..start + 6 + size]);
+                    moved[start + 4..start + 6].copy_from_slice(&right);
+                }
+            }
             assert_eq!(file[..moved.len()], moved);
             let sign = if mode == W { "W" } else { "N" };
             assert_eq!(item(&file, "MP3GAIN_UNDO"), format!("{:+04},{:+04},{sign}", -steps[0], -steps[1]));
@@ -168,10 +198,17 @@ fn every_cut_comes_back() {
                 match changed(&file, Call::Level(5, 5, W)) {
                     Err(why) => {
                         assert!(n < whole.ends[0]);
-                        assert_eq!(why, refused(Refusal::NoFrame));
+                        assert_eq!(why, "it has no MP3 frame with sound");
                     }
-                    Ok((new, _)) => {
-                        assert_eq!(new[..n], whole.levelled(n, [5, 5], true)[..n]);
+                    Ok((new, notes)) => {
+                        if !kind.crc {
+                            assert_eq!(new[..n], whole.levelled(n, [5, 5], true)[..n]);
+                        }
+                        let left = n - whole.ends.iter().filter(|end| **end <= n).max().unwrap();
+                        assert_eq!(notes.len(), (left > 0) as usize);
+                        assert!(
+                            left < 2 || notes[0].starts_with(&format!("{left} bytes are part of no whole MP3 frame"))
+                        );
                         assert!(undo(&new) == file, "a loop cut to {n} bytes does not come back");
                     }
                 }
@@ -187,7 +224,7 @@ fn any_bytes_come_back() {
     let (mut levelled, mut refused) = (0, 0);
     for turn in 0..3000 {
         let mut new = Loop::default();
-        let kind = kinds().nth(turn % 8).unwrap();
+        let kind = kinds().nth(turn % 24).unwrap();
         let mut main = Bytes(turn as u64);
         let mut fill =
             move || [0xFF, 0xFB, 0xE2, 0x10, 0x40, b'I', b'D', b'3', 0, main.next()][main.next() as usize % 10];
@@ -212,53 +249,54 @@ fn any_bytes_come_back() {
 fn it_goes_on_behind_junk_and_a_second_id3v2_tag() {
     let mut rng = Bytes(11);
     let mut new = Loop::default();
-    // A tag whose body is a frame, which is no sound: it stands at the first byte.
+    // A tag whose body is a frame, which is no sound.
     let mut inside = Loop::default();
     inside.frame(STEREO, &mut rng, || 0x55);
-    new.bytes.extend([b"ID3\x04\0\0\0\0\0\x68", &inside.bytes[..]].concat());
+    let tag = [b"ID3\x04\0\0\0\0\0\x68", &inside.bytes[..]].concat();
+    new.bytes.extend(&tag);
     new.frame(STEREO, &mut rng, || 0x55);
     new.bytes.extend(b"some junk that is no frame");
     new.frame(STEREO, &mut rng, || 0x55);
-    new.bytes.extend(b"ID3\x04\0\0\0\0\0\x10TIT2\0\0\0\x06\0\0\0Floor");
+    new.bytes.extend(&tag);
     new.frame(STEREO, &mut rng, || 0x55);
-    let file = level(&new.bytes, 3, -3, W);
+    let (file, notes) = changed(&new.bytes, Call::Level(3, -3, W)).unwrap();
     assert_eq!(file[..new.bytes.len()], new.levelled(new.bytes.len(), [3, -3], true));
+    assert_eq!(notes, ["26 bytes are part of no whole MP3 frame and were left as they were"]);
     assert_eq!(undo(&file), new.bytes);
 }
 
-/// An encoder's table is a frame. Its gains are 0: N leaves them, W moves them, and both come back.
 #[test]
-fn a_table_is_a_frame() {
+fn a_table_is_no_sound() {
     for word in [b"Xing", b"Info"] {
         let mut table = Loop::of(STEREO, 1, 1);
-        table.bytes[4..36].fill(0);
         table.bytes[36..40].copy_from_slice(word);
-        let n = table.bytes.len();
+        assert_eq!(changed(&table.bytes, Call::Level(1, 1, N)).unwrap_err(), "it has no MP3 frame with sound");
         let file = [table.bytes.clone(), Loop::of(STEREO, 2, 2).bytes].concat();
-        assert_eq!(level(&file, 1, 1, N)[..n], table.bytes);
-        assert_eq!(level(&file, 1, 1, W)[..n], table.levelled(n, [1, 1], true));
-        assert_eq!(undo(&level(&file, 1, 1, W)), file);
+        assert_eq!(level(&file, 1, 1, W)[..table.bytes.len()], table.bytes);
     }
 }
 
 #[test]
-fn what_the_calls_do_not_level_is_refused() {
-    for mode in 0..4 {
-        for (version, crc, why) in
-            [(0, false, Refusal::NoFrame), (3, true, Refusal::HasChecksum), (2, true, Refusal::HasChecksum)]
-        {
-            let file = Loop::of(Kind { version, mode, crc }, 3, 1).bytes;
-            assert_eq!(changed(&file, Call::Level(1, 1, N)).unwrap_err(), refused(why));
-            assert_eq!(changed(&file, Call::Undo).unwrap_err(), refused(why));
-        }
-    }
-    // One frame is enough.
-    let file = [Loop::of(STEREO, 2, 1).bytes, Loop::of(Kind { crc: true, ..STEREO }, 1, 1).bytes].concat();
-    assert_eq!(changed(&file, Call::Level(1, 1, N)).unwrap_err(), refused(Refusal::HasChecksum));
+fn check_sums_stay_right_and_wrong_ones_come_back() {
+    let mut new = Loop::of(Kind { crc: true, ..JOINT }, 3, 5);
+    let file = level(&new.bytes, 4, 4, W);
+    assert_eq!(file[4..6], sum(&file[2..4], &file[6..38]));
+    assert_ne!(file[4..6], new.bytes[4..6]);
+    new.bytes[4] ^= 0x21;
+    let file = level(&new.bytes, 4, 4, W);
+    assert_ne!(file[4..6], sum(&file[2..4], &file[6..38]));
+    assert_eq!(undo(&file), new.bytes);
 }
 
 #[test]
 fn steps_for_each_side() {
+    let why = "it is in joint stereo, so both sides have to move by the same number of steps";
+    let joint = Loop::of(JOINT, 3, 1).bytes;
+    assert_eq!(changed(&joint, Call::Level(3, 2, N)).unwrap_err(), why);
+    assert_eq!(item(&level(&joint, 3, 3, N), "MP3GAIN_UNDO"), "-003,-003,N");
+    // One frame is enough.
+    let mixed = [Loop::of(STEREO, 2, 1).bytes, joint].concat();
+    assert_eq!(changed(&mixed, Call::Level(3, 2, N)).unwrap_err(), why);
     assert_eq!(item(&level(&Loop::of(STEREO, 3, 1).bytes, 3, 2, N), "MP3GAIN_UNDO"), "-003,-002,N");
     let mono = Loop::of(MONO, 3, 1).bytes;
     let (file, notes) = changed(&mono, Call::Level(3, -2, W)).unwrap();
@@ -269,7 +307,7 @@ fn steps_for_each_side() {
 
 /// A gain that becomes the `T` of `TAG`, 128 bytes before the end of the sound.
 #[test]
-fn an_end_that_would_look_like_a_tag_is_refused() {
+fn an_end_that_would_look_like_id3v1_is_refused() {
     let mut new = Loop::of(STEREO, 2, 9);
     let (_, _, bit) = new.gains[4];
     let at = bit / 8;
@@ -282,7 +320,7 @@ fn an_end_that_would_look_like_a_tag_is_refused() {
     assert_eq!(gain_at(&new.bytes, bit), there - 1);
     assert_eq!(undo(&level(&new.bytes, 2, 2, W)), new.bytes);
     let why = changed(&new.bytes, Call::Level(1, 1, W)).unwrap_err();
-    assert_eq!(why, "with these gains its end would look like part of a tag, and an undo would miss it");
+    assert_eq!(why, "with these gains its end would look like an ID3v1 block, and an undo would miss it");
 }
 
 #[test]
@@ -298,10 +336,12 @@ fn peaks_are_told() {
 fn a_refusal_says_why() {
     let file = Loop::of(STEREO, 2, 1).bytes;
     assert_eq!(changed(&file, Call::Undo).unwrap_err(), format!("{} (refusal 10)", Refusal::NoUndo));
-    assert_eq!(changed(&file, Call::Level(256, 0, N)).unwrap_err(), refused(Refusal::StepOutOfRange));
-    assert_eq!(changed(b"", Call::Undo).unwrap_err(), refused(Refusal::NoFrame));
+    let why = format!("{} (refusal 2)", Refusal::StepOutOfRange);
+    assert_eq!(changed(&file, Call::Level(256, 0, N)).unwrap_err(), why);
+    assert_eq!(changed(b"", Call::Undo).unwrap_err(), "it has no MP3 frame with sound");
     let once = level(&file, 1, 1, N);
-    assert_eq!(changed(&once, Call::Level(1, 1, W)).unwrap_err(), refused(Refusal::FlagDiffers));
+    let why = format!("{} (refusal 9)", Refusal::FlagDiffers);
+    assert_eq!(changed(&once, Call::Level(1, 1, W)).unwrap_err(), why);
 }
 
 #[test]
@@ -433,7 +473,7 @@ fn a_huge_file_is_not_read_whole() {
     let tag = set_item(b"", b"Title", b"Floor").unwrap();
     std::io::Write::write_all(&mut fs::File::options().append(true).open(&path).unwrap(), &tag).unwrap();
     assert_eq!(run(Call::List, &path).unwrap().0, "items=1\nTITLE=Floor\n");
-    let why = refused(Refusal::FileTooLong) + "; the file is as it was";
+    let why = format!("{} (refusal 1); the file is as it was", Refusal::FileTooLong);
     assert_eq!(run(UP, &path).unwrap_err(), why);
     assert_eq!(run(Call::Undo, &path).unwrap_err(), why);
 }

@@ -92,15 +92,6 @@ pub fn zib_serialize_ape_tag(area: &[u8], count: usize, out: &mut [u8], written:
     put_written(ape_write::serialize_ape_tag(area, count, out), written)
 }
 
-// Hands out where a file is cut.
-fn hand_out(cut: Cut, front: &mut usize, from: &mut usize, to: &mut usize)
-    ensures { (front.new ≡ cut.front) × (from.new ≡ cut.from) × (to.new ≡ cut.to) }
-{
-    *front = cut.front;
-    *from = cut.from;
-    *to = cut.to;
-}
-
 // Where the file is cut: what precedes its tag ends at `front`, and what follows it stands between `from` and `to`. Without a tag, the
 // same of the place where one would be put. Refusal 1.
 pub fn zib_split_ape_tag(file: &[u8], front: &mut usize, from: &mut usize, to: &mut usize) -> u32
@@ -110,8 +101,23 @@ pub fn zib_split_ape_tag(file: &[u8], front: &mut usize, from: &mut usize, to: &
     if replies::FILE_LIMIT < file.len() {
         return replies::number(Refusal::FileTooLong);
     }
-    hand_out(ape_replace::split_ape_tag(file), front, from, to);
+    let cut = ape_replace::split_ape_tag(file);
+    let a = cut.front;
+    let b = cut.from;
+    let c = cut.to;
+    *front = a;
+    *from = b;
+    *to = c;
     0
+}
+
+// Hands out where a file is cut.
+fn hand_out(cut: Cut, front: &mut usize, from: &mut usize, to: &mut usize)
+    ensures { (front.new ≡ cut.front) × (from.new ≡ cut.from) × (to.new ≡ cut.to) }
+{
+    *front = cut.front;
+    *from = cut.from;
+    *to = cut.to;
 }
 
 // `zib_split_ape_tag`, by the name that says what it is for: the two parts of the file that stay when its tag is replaced. Refusal 1.

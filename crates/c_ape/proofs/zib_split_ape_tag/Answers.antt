@@ -1,4 +1,4 @@
-use mathlib.Core.Path.{◌≡◌, refl, ap, ◌∙◌}
+use mathlib.Core.Path.{◌≡◌, refl, ap}
 use borrow.Author.Rules.{rules}
 use borrow.Author.Tests.{le-leb, lt-leb}
 use Rattle.ape_replace.specs.Answers.{cut_of}
@@ -10,6 +10,5 @@ returns-then-file-gt-FILE_LIMIT c = rw (lt-leb _ _ c.if-file-gt-FILE_LIMIT.true)
 
 pub returns : goal.returns
 returns c =
-    let e : c.split_ape_tag.result ≡ cut_of c.args.file.now = c.split_ape_tag.ensures in
-    let h = c.hand_out.ensures in
-    rw (le-leb _ _ c.if-file-gt-FILE_LIMIT.false) (refl, h.0 ∙ ap (λ (x : Cut). x.front) e, h.1 ∙ ap (λ (x : Cut). x.from) e, h.2 ∙ ap (λ (x : Cut). x.to) e)
+    let e : c.split_ape_tag-cut.result ≡ cut_of c.args.file.now = c.split_ape_tag-cut.ensures in
+    rw (le-leb _ _ c.if-file-gt-FILE_LIMIT.false) (refl, ap (λ (x : Cut). x.front) e, ap (λ (x : Cut). x.from) e, ap (λ (x : Cut). x.to) e)
