@@ -2,7 +2,7 @@
 
 usage: covers.py FOLDER LOOP EDIT [TAGLIB]
 
-LOOP is the bindings' example `loop`, EDIT is tests/covers.c and TAGLIB tests/covers.cc, built. FOLDER has the loops of tests/peers.py.
+LOOP is the bindings' example `loop` or `loop_mp3`, EDIT is tests/covers.c and TAGLIB tests/covers.cc, built. FOLDER has the loops of tests/peers.py.
 """
 
 import os

@@ -1,7 +1,9 @@
 """Loops of several kinds: what we write, mutagen, TagLib and ffmpeg read; what mutagen, TagLib, mp3gain and ffmpeg write, we read; all of it is undone.
 The sound moves as mp3gain moves it, that of cut and damaged copies too.
 
-usage: peers.py FOLDER LOOP
+usage: peers.py FOLDER LOOP LOOP_MP3
+
+LOOP and LOOP_MP3 are the bindings' examples `loop`, which walks the frames itself, and `loop_mp3`, by the calls on the sound, built.
 """
 
 import json
@@ -17,7 +19,8 @@ import wave
 import mutagen.apev2
 import taglib
 
-work, loop = sys.argv[1:]
+work, LOOP, LOOP_MP3 = sys.argv[1:]
+loop = LOOP  # the example that is run
 checks = failed = 0
 
 
@@ -26,7 +29,7 @@ def check(good, what):
     checks += 1
     if not good:
         failed += 1
-        print("peers:", what)
+        print(f"peers: {os.path.basename(loop)}:", what)
 
 
 def run(*words):
@@ -146,7 +149,12 @@ kinds = [
     ("id3v1", 2, 44100, ["-m", "j", "-V", "2", "--id3v1-only", "--tt", "Loop"]),
     ("id3v2", 2, 44100, ["-m", "j", "-V", "2", "--id3v2-only", "--tt", "Loop"]),
 ]
-for name, channels, rate, options in kinds:
+# What the calls on the sound refuse and `loop` levels: frames with a checksum, and MPEG 2.5.
+others = [
+    ("stereo_with_sums", 2, 48000, ["-m", "s", "-p", "-b", "192"]),
+    ("lowest_rate_mono", 1, 11025, ["-m", "m", "-b", "24"]),
+]
+for loop, name, channels, rate, options in [(LOOP, *kind) for kind in kinds + others] + [(LOOP_MP3, *kind) for kind in kinds]:
     path = encoded(name, sound(name, channels, rate), *options)
     first = read(path)
 
@@ -164,11 +172,14 @@ for name, channels, rate, options in kinds:
     run(loop, "undo", path)
     check(read(path) == first, f"{name}: undo does not give the file back")
 
-    # Steps for each side; of one channel the left ones count.
-    run(loop, "level", path, "3", "2")
-    stored = "-003,-003,N" if channels == 1 else "-003,-002,N"
-    check(listed(path).get("MP3GAIN_UNDO") == stored, f"{name}: unequal steps store {listed(path)}")
-    run(loop, "undo", path)
+    # Steps for each side: `loop` takes none in joint stereo, and of one channel the left ones count.
+    done = run(loop, "level", path, "3", "2")
+    if loop == LOOP and "j" in options:
+        check(done.returncode == 1 and "joint stereo" in done.stderr, f"{name}: unequal steps: {done.stderr}")
+    else:
+        stored = "-003,-003,N" if channels == 1 else "-003,-002,N"
+        check(listed(path).get("MP3GAIN_UNDO") == stored, f"{name}: unequal steps store {listed(path)}")
+        run(loop, "undo", path)
     check(read(path) == first, f"{name}: unequal steps do not give the file back")
 
     # mp3gain takes back what we did, but for its own items.
@@ -207,6 +218,9 @@ for name, channels, rate, options in kinds:
     song.save()
     song.close()
     check(run(loop, "level", path + ".taglib.mp3", "1", "1").returncode == 0, f"{name}: level refuses what TagLib wrote")
+
+# The calls on the sound.
+loop = LOOP_MP3
 
 # Every rate of MPEG-1 and MPEG-2, every mode, three ways to spend the bits: the sound after each level is mp3gain's, and each undoes the other's. -3 goes
 # first: LAME may end a loop with gains of 255, which N holds there when they should rise, and then an undo does not give them back.
@@ -292,48 +306,50 @@ for name, numbers, options in [
 
 # A peak that mp3gain measured: both move it to the same text, up to 9.999999, where mp3gain stops; half-way between two millionths it may go down.
 tagged = "oracle/tagged/mp3gain.mp3"
-ends = {}
-for peak, steps in [("0.248763", n) for n in (*range(-20, 21), 24)] + [("1.000000", -28)]:
-    paths = [os.path.join(work, who + ".mp3") for who in ("theirs", "ours")]
-    for path in paths:
-        write(path, read(tagged).replace(b"0.248763", peak.encode()))
-    run("mp3gain", "-q", "-g", str(steps), paths[0])
-    run(loop, "level", paths[1], str(steps), str(steps))
-    theirs, ours = (listed(path).get("REPLAYGAIN_TRACK_PEAK") for path in paths)
-    if float(ours) > 9.999999 or peak == "1.000000":
-        ends[steps] = (theirs, ours)
-    else:
-        check(theirs == ours, f"{peak} by {steps}: mp3gain moves it to {theirs}, we to {ours}")
-check(ends == {24: ("9.999999", "15.920832"), -28: ("0.007812", "0.007813")}, f"peaks that mp3gain moves otherwise: {ends}")
+for loop in LOOP, LOOP_MP3:
+    ends = {}
+    for peak, steps in [("0.248763", n) for n in (*range(-20, 21), 24)] + [("1.000000", -28)]:
+        paths = [os.path.join(work, who + ".mp3") for who in ("theirs", "ours")]
+        for path in paths:
+            write(path, read(tagged).replace(b"0.248763", peak.encode()))
+        run("mp3gain", "-q", "-g", str(steps), paths[0])
+        run(loop, "level", paths[1], str(steps), str(steps))
+        theirs, ours = (listed(path).get("REPLAYGAIN_TRACK_PEAK") for path in paths)
+        if float(ours) > 9.999999 or peak == "1.000000":
+            ends[steps] = (theirs, ours)
+        else:
+            check(theirs == ours, f"{peak} by {steps}: mp3gain moves it to {theirs}, we to {ours}")
+    check(ends == {24: ("9.999999", "15.920832"), -28: ("0.007812", "0.007813")}, f"peaks that mp3gain moves otherwise: {ends}")
 
 # ffmpeg writes such tags into WavPack files. Its tag is listed there; behind a loop it is kept by level and undo.
-wavpack = os.path.join(work, "ffmpeg.wv")
-words = ["-metadata", "title=Fläche", "-metadata", "artist=Höller", "-metadata", "place=floor=12"]
-made = run("ffmpeg", "-v", "error", "-i", sound("ffmpeg", 2, 44100), *words, wavpack)
-check(made.returncode == 0, f"ffmpeg says {made.stderr}")
-theirs = listed(wavpack)
-told = by_ffmpeg(wavpack)
-check(theirs.keys() == told.keys(), f"ffmpeg wrote {told}, we list {theirs}")
-check(theirs.get("TITLE") == "Fl\\c3\\a4che" and theirs.get("PLACE") == "floor=12", f"ffmpeg wrote {told}, we list {theirs}")
-wavs, tag = cut(read(wavpack))
-path = os.path.join(work, "behind.mp3")
-run("lame", "--quiet", sound("behind", 2, 44100), path, "-b", "128")
-bare = read(path)
-with open(path, "ab") as f:
-    f.write(tag)
-first = decoded(path)
-check(len(first) > 100_000, "ffmpeg hears the loop")
-check(run(loop, "level", path, "-8", "-8").returncode == 0, "level refuses what ffmpeg wrote")
-check(decoded(path) != first, "ffmpeg hears no difference after level")
-ours = listed(path)
-check(ours.get("MP3GAIN_UNDO") == "+008,+008,N" and all(ours.get(k) == v for k, v in theirs.items()), f"after level we list {ours}")
-write(wavpack, wavs + cut(read(path))[1])
-heard = by_ffmpeg(wavpack)
-check(heard.keys() == ours.keys(), f"ffmpeg reads {heard}, we list {ours}")
-check(heard.get("MP3GAIN_UNDO") == "+008,+008,N" and heard.get("TITLE") == "Fläche", f"ffmpeg reads {heard}")
-check(run(loop, "undo", path).returncode == 0, "undo refuses")
-check(cut(read(path))[0] == bare and listed(path) == theirs, "undo does not give back the loop and ffmpeg's items")
-check(decoded(path) == first, "ffmpeg hears another loop after undo")
+for loop in LOOP, LOOP_MP3:
+    wavpack = os.path.join(work, "ffmpeg.wv")
+    words = ["-metadata", "title=Fläche", "-metadata", "artist=Höller", "-metadata", "place=floor=12"]
+    made = run("ffmpeg", "-v", "error", "-y", "-i", sound("ffmpeg", 2, 44100), *words, wavpack)
+    check(made.returncode == 0, f"ffmpeg says {made.stderr}")
+    theirs = listed(wavpack)
+    told = by_ffmpeg(wavpack)
+    check(theirs.keys() == told.keys(), f"ffmpeg wrote {told}, we list {theirs}")
+    check(theirs.get("TITLE") == "Fl\\c3\\a4che" and theirs.get("PLACE") == "floor=12", f"ffmpeg wrote {told}, we list {theirs}")
+    wavs, tag = cut(read(wavpack))
+    path = os.path.join(work, "behind.mp3")
+    run("lame", "--quiet", sound("behind", 2, 44100), path, "-b", "128")
+    bare = read(path)
+    with open(path, "ab") as f:
+        f.write(tag)
+    first = decoded(path)
+    check(len(first) > 100_000, "ffmpeg hears the loop")
+    check(run(loop, "level", path, "-8", "-8").returncode == 0, "level refuses what ffmpeg wrote")
+    check(decoded(path) != first, "ffmpeg hears no difference after level")
+    ours = listed(path)
+    check(ours.get("MP3GAIN_UNDO") == "+008,+008,N" and all(ours.get(k) == v for k, v in theirs.items()), f"after level we list {ours}")
+    write(wavpack, wavs + cut(read(path))[1])
+    heard = by_ffmpeg(wavpack)
+    check(heard.keys() == ours.keys(), f"ffmpeg reads {heard}, we list {ours}")
+    check(heard.get("MP3GAIN_UNDO") == "+008,+008,N" and heard.get("TITLE") == "Fläche", f"ffmpeg reads {heard}")
+    check(run(loop, "undo", path).returncode == 0, "undo refuses")
+    check(cut(read(path))[0] == bare and listed(path) == theirs, "undo does not give back the loop and ffmpeg's items")
+    check(decoded(path) == first, "ffmpeg hears another loop after undo")
 
 print(f"peers: {checks} checks, {failed} failed")
 sys.exit(failed != 0)

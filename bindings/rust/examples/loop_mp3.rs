@@ -1,8 +1,8 @@
-//! Levels and undoes an MP3 loop in its file.
+//! Levels and undoes an MP3 loop in its file by the calls on the gains in its sound.
 //!
-//!     loop level FILE LEFT RIGHT [N|W]    move the gains of either side by so many steps; N, the default, holds them within 0..255
-//!     loop undo FILE                      bring them back, and take mp3gain's items out of the tag
-//!     loop list FILE                      list the tag in the last 16,384 bytes
+//!     loop_mp3 level FILE LEFT RIGHT [N|W]    move the gains of either side by so many steps; N, the default, holds them within 0..255
+//!     loop_mp3 undo FILE                      bring them back, and take mp3gain's items out of the tag
+//!     loop_mp3 list FILE                      list the tag in the last 16,384 bytes
 //!
 //! The file is replaced as a whole, or not at all. A link is followed; owner, mode and times are kept; a read-only file is refused. Where the file
 //! has a second name (a hard link), that name keeps the old bytes.
@@ -61,7 +61,7 @@ pub fn changed(file: &[u8], call: Call) -> Result<(Vec<u8>, Vec<String>), String
 
 /// Replaces a file as a whole: what is new is written beside it, brought to the disk, and renamed.
 fn replace(path: &Path, old: &Metadata, bytes: &[u8]) -> io::Result<()> {
-    let beside = path.with_file_name(format!(".loop-{}.new", std::process::id()));
+    let beside = path.with_file_name(format!(".loop_mp3-{}.new", std::process::id()));
     let mut out = OpenOptions::new().write(true).create_new(true).mode(0o600).open(&beside)?;
     let mut write = || {
         out.write_all(bytes)?;
@@ -135,7 +135,7 @@ pub fn run(call: Call, name: &Path) -> Result<(String, Vec<String>), String> {
 
 /// What the words of the command line ask for, and of which file.
 pub fn call_of(words: &[OsString]) -> Result<(Call, &Path), String> {
-    let usage = "usage: loop level FILE LEFT RIGHT [N|W] | loop undo FILE | loop list FILE";
+    let usage = "usage: loop_mp3 level FILE LEFT RIGHT [N|W] | loop_mp3 undo FILE | loop_mp3 list FILE";
     let steps = |word: &OsString| {
         let number = word.to_str().and_then(|w| w.parse().ok());
         number.ok_or_else(|| format!("{} is not a number of steps", word.display()))
@@ -167,13 +167,13 @@ fn main() -> ExitCode {
     };
     match run(call, name) {
         Ok((text, notes)) => {
-            notes.iter().for_each(|note| say(format!("loop: {}: {note}", name.display())));
+            notes.iter().for_each(|note| say(format!("loop_mp3: {}: {note}", name.display())));
             // Whoever reads the listing may stop early.
             drop(io::stdout().write_all(text.as_bytes()));
             ExitCode::SUCCESS
         }
         Err(why) => {
-            say(format!("loop: {}: {why}", name.display()));
+            say(format!("loop_mp3: {}: {why}", name.display()));
             ExitCode::FAILURE
         }
     }

@@ -1,8 +1,9 @@
 //! Reads and edits the APEv2 tags of MP3 loops, levels their gains, and undoes it: safe calls over the proved library.
 //!
 //! [`level`] moves the gains that it is lent and writes mp3gain's undo item into the tag; [`undo`] gives back the file and the gains.
-//! [`level_mp3`] and [`undo_mp3`] do so with the gains in the sound of an MP3; `examples/loop.rs` replaces a file by what they give.
-//! `docs/LIBRARY.md` says for each call when it refuses and what it costs, `docs/TERMS.md` what the words mean.
+//! [`level_mp3`] and [`undo_mp3`] do so with the gains in the sound of an MP3; `examples/loop_mp3.rs` replaces a file by what they give.
+//! `docs/LIBRARY.md` says for each call when it refuses and what it costs, `docs/TERMS.md` what the words mean, and `examples/loop.rs` how
+//! the gains are read from an MP3 and written back.
 //!
 //! A call that fails gives a [`Refusal`] and has changed nothing. The library never reads or writes outside the slices that it is lent, and
 //! none of those that it writes can overlap another here, so every function is safe. It keeps nothing between calls, so any thread may call

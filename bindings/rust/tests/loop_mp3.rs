@@ -1,7 +1,7 @@
-//! The example `loop`: short loops of frames made here, levelled and undone.
+//! The example `loop_mp3`: short loops of frames made here, levelled and undone.
 
 #[allow(dead_code)]
-#[path = "../examples/loop.rs"]
+#[path = "../examples/loop_mp3.rs"]
 mod program;
 
 use program::{call_of, changed, run, Call};
@@ -328,7 +328,7 @@ struct Folder(PathBuf);
 
 impl Folder {
     fn new(name: &str) -> Folder {
-        let path = std::env::temp_dir().join(format!("loop-{name}-{}", std::process::id()));
+        let path = std::env::temp_dir().join(format!("loop_mp3-{name}-{}", std::process::id()));
         fs::create_dir(&path).unwrap();
         Folder(path)
     }
@@ -404,7 +404,7 @@ fn what_cannot_be_written_is_refused() {
     assert!(run(UP, &folder.0.join("none.mp3")).is_err());
     // What stands where the new file is to be written is not touched.
     fs::set_permissions(&path, fs::Permissions::from_mode(0o644)).unwrap();
-    let beside = folder.0.join(format!(".loop-{}.new", std::process::id()));
+    let beside = folder.0.join(format!(".loop_mp3-{}.new", std::process::id()));
     fs::write(&beside, b"another's").unwrap();
     assert!(run(UP, &path).unwrap_err().ends_with("the file is as it was"));
     assert_eq!((fs::read(&path).unwrap(), fs::read(&beside).unwrap()), (file, b"another's".to_vec()));
