@@ -55,7 +55,71 @@ fn items_length_in(
     lengths::last_length(file, m.length, m.count)
 }
 
-// The same in room that is large enough.
+// The same in room for a few items.
+fn items_length_small(
+    file: &[u8],
+    start: usize,
+    end: usize,
+    count: usize,
+    left_steps: GainSteps,
+    right_steps: GainSteps,
+    mode: GainMode,
+    undo: UndoValues,
+) -> NewLength
+    requires { (Passed file.now start end count) × (length file.now ≤ 16777216) × (end - start + 32 * count ≤ 4020) }
+    ensures { (let asked : Level = record { left = left_steps.0; right = right_steps.0; mode = mode } in
+        let ts = ranged_items asked undo (record { least = 0; greatest = 0 }) (items_of file.now) in
+        result ≡ length_answer (last_length file.now (length (area_bytes ts)) (length ts))) }
+{
+    let mut work = edit::small_scratch();
+    let mut new = edit::small_scratch();
+    items_length_in(
+        file,
+        start,
+        end,
+        count,
+        left_steps,
+        right_steps,
+        mode,
+        undo,
+        &mut work,
+        &mut new,
+    )
+}
+
+// The same in room for all items.
+fn items_length_large(
+    file: &[u8],
+    start: usize,
+    end: usize,
+    count: usize,
+    left_steps: GainSteps,
+    right_steps: GainSteps,
+    mode: GainMode,
+    undo: UndoValues,
+) -> NewLength
+    requires { (Passed file.now start end count) × (length file.now ≤ 16777216) }
+    ensures { (let asked : Level = record { left = left_steps.0; right = right_steps.0; mode = mode } in
+        let ts = ranged_items asked undo (record { least = 0; greatest = 0 }) (items_of file.now) in
+        result ≡ length_answer (last_length file.now (length (area_bytes ts)) (length ts))) }
+{
+    let mut work = level::scratch();
+    let mut new = level::scratch();
+    items_length_in(
+        file,
+        start,
+        end,
+        count,
+        left_steps,
+        right_steps,
+        mode,
+        undo,
+        &mut work,
+        &mut new,
+    )
+}
+
+// The same in room that is large enough. Each room has a function of its own, so that a call takes the stack of one of them.
 fn items_length(
     file: &[u8],
     start: usize,
@@ -72,35 +136,9 @@ fn items_length(
         result ≡ length_answer (last_length file.now (length (area_bytes ts)) (length ts))) }
 {
     if end - start + 32 * count <= 4020 {
-        let mut work = edit::small_scratch();
-        let mut new = edit::small_scratch();
-        return items_length_in(
-            file,
-            start,
-            end,
-            count,
-            left_steps,
-            right_steps,
-            mode,
-            undo,
-            &mut work,
-            &mut new,
-        );
+        return items_length_small(file, start, end, count, left_steps, right_steps, mode, undo);
     }
-    let mut work = level::scratch();
-    let mut new = level::scratch();
-    items_length_in(
-        file,
-        start,
-        end,
-        count,
-        left_steps,
-        right_steps,
-        mode,
-        undo,
-        &mut work,
-        &mut new,
-    )
+    items_length_large(file, start, end, count, left_steps, right_steps, mode, undo)
 }
 
 // How long the file would be that level writes: refusals 1, 2, 7, 8, 14, 9, 11, 6 and 5. Of the gains it asks only whether there are left ones.

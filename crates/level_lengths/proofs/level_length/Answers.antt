@@ -1,6 +1,5 @@
 -- What the check says, and then the length of the file with the items that level leaves.
 use mathlib.Core.Path.{◌≡◌, ap, ◌∙◌}
-use borrow.Author.Rules.{rules}
 use Rattle.calls.specs.Calls.{Level, is_there}
 use Rattle.calls.specs.Lengths.{unlimited, level_length}
 use Rattle.gate.specs.Gate.{area_place}

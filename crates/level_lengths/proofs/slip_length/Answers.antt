@@ -1,6 +1,5 @@
-use mathlib.Core.Path.{◌≡◌, refl, sym, ◌∙◌}
+use mathlib.Core.Path.{◌≡◌, sym, ◌∙◌}
 use mathlib.Core.Option.{some}
-use borrow.Author.Rules.{rules}
 use Rattle.slip.specs.Slip.{slip_form}
 use Rattle.slip.proofs.Answers.{good-is, malformed-is}
 use Rattle.calls.specs.Calls.{slip_plan}
