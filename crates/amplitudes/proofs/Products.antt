@@ -6,15 +6,16 @@ use mathlib.Core.Bool.{Bool, true, false, not, ◌&&◌, and-eq-true_iff}
 use mathlib.Core.List.{[], ◌∷◌}
 use lib.ListN.{get_or}
 use lib.Dec.{T, eqb}
-use lib.IntN.{ℤ, pos, negsuc, neg_ℤ, ◌+ℤ◌, ◌*ℤ◌}
+use lib.IntN.{ℤ, pos, negsuc, neg_ℤ, nat_abs, ◌+ℤ◌, ◌*ℤ◌}
 use lib.Ieee.{Float, nan, inf, fin, binary64, up, down, mul, fits, of_bits, to_bits, nan_bits}
 use lib.Ieee.Bits.{of_bits-to_bits, nan_bits_above}
 use lib.Ieee.Exact.{HasValue}
+use mir.Syntax.{w32}
+use mir.Val.{SFits}
 use denote.Floats.{passes}
 use borrow.Author.Tests.{leb-true, eqb-true, le-ltb}
 use Rattle.keys.proofs.Lists.{all_below, below}
-use Rattle.integers.specs.Apart.{whole_of}
-use Rattle.integers.specs.declared.Apart.{Apart}
+use Rattle.std.specs.Int.{int_rem_euclid}
 use Rattle.integers.proofs.Parts.{neg-up, neg-down}
 use Rattle.number.proofs.Signs.{total}
 use Rattle.slip.specs.Slip.{is_step}
@@ -85,7 +86,7 @@ claims = record { nearest = nearest-root; only = λ k m h x. one-root x (nearest
 -- ---- as the code makes it
 
 -- the field of the exponent of the power
-abbrev pub field : ℤ → ℕ
+abbrev field : ℤ → ℕ
 field (pos n) = 1023 + n / 4
 field (negsuc n) = 1022 - n / 4
 
@@ -107,7 +108,7 @@ power-is s h =
     let (a, b) = (and-eq-true_iff (eqb (to_bits binary64 (power (quarter s))) (field s * 4503599627370496)) (fits binary64 (power (quarter s)))).0 (over plain plain-up plain_down s h) in
     ap (of_bits binary64) (sym (eqb-true _ _ a)) ∙ of_bits-to_bits binary64 (power (quarter s)) (passes _ b)
 
-pub made : (s : ℤ) → is_step s ≡ true → mul binary64 (constant (rest s)) (of_bits binary64 (field s * 4503599627370496)) ≡ amplitude s
+made : (s : ℤ) → is_step s ≡ true → mul binary64 (constant (rest s)) (of_bits binary64 (field s * 4503599627370496)) ≡ amplitude s
 unfolding amplitude
 made s h = rw (power-is s h)
 
@@ -126,9 +127,28 @@ constant-at (suc (suc zero)) h = refl
 constant-at (suc (suc (suc zero))) h = refl
 constant-at (suc (suc (suc (suc k)))) h = absurd (omega arith)
 
-module _ (s : ℤ) (a : Apart) (e : whole_of a ≡ s) (h : is_step s ≡ true) where
-  pub step_down : a.down ≡ true → (s ≡ negsuc a.by) × (a.by < 255)
-  step_down d = let q : s ≡ negsuc a.by = sym e ∙ rw d in (q, omega (arith, leb-true (suc a.by) 255 (ap is_step (sym q) ∙ h)))
+-- ---- the steps divided by 4, as the code divides them
 
-  pub step-up : a.down ≡ false → (s ≡ pos a.by) × (a.by < 256)
-  step-up d = let q : s ≡ pos a.by = sym e ∙ rw d in (q, omega (arith, leb-true a.by 255 (ap is_step (sym q) ∙ h)))
+rest-is : (z : ℤ) → int_rem_euclid z (pos 4) ≡ pos (rest z)
+rest-is (pos n) = refl
+rest-is (negsuc n) = refl
+
+field-is : (z : ℤ) → is_step z ≡ true → pos 1023 +ℤ quarter z ≡ pos (field z)
+field-is (pos n) h = refl
+field-is (negsuc n) h = total (pos 1023) (negsuc (n / 4)) (pos (1022 - n / 4)) (omega (arith, leb-true (suc n) 255 h))
+
+-- so the product is of the two, whatever they are written as
+pub made_of : (z k f : ℤ) → is_step z ≡ true → k ≡ int_rem_euclid z (pos 4) → f ≡ pos 1023 +ℤ quarter z
+    → mul binary64 (constant (nat_abs k)) (of_bits binary64 (nat_abs f * 4503599627370496)) ≡ amplitude z
+made_of z k f h e q = rw (e, q, rest-is z, field-is z h) (made z h)
+
+field-small : (z : ℤ) → is_step z ≡ true → field z < 2047
+field-small (pos n) h = omega (arith, leb-true n 255 h)
+field-small (negsuc n) h = omega arith
+
+pub sum_fits : (z : ℤ) → is_step z ≡ true → SFits w32 (pos 1023 +ℤ quarter z)
+sum_fits z h = rw (field-is z h) (record { sfits = omega (arith, field-small z h) })
+
+pub quarter_fits : (z : ℤ) → is_step z ≡ true → SFits w32 (quarter z)
+quarter_fits (pos n) h = record { sfits = omega (arith, leb-true n 255 h) }
+quarter_fits (negsuc n) h = record { sfits = omega (arith, leb-true (suc n) 255 h) }

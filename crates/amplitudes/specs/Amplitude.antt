@@ -1,15 +1,14 @@
 -- Amplitudes (document 02, request 14): 2 to the power of a quarter of the steps.
-use Rattle.std.specs.Prelude.{◌≡◌, true, false, ◌&&◌, List, [], ◌∷◌, ℕ, suc, ◌+◌, ◌-◌, ◌*◌, ◌%◌, ◌^◌, ◌≤◌, ◌<◌, get_or, ℤ, pos, negsuc, ◌+ℤ◌, ◌*ℤ◌, Float}
+use Rattle.std.specs.Prelude.{◌≡◌, true, false, ◌&&◌, List, [], ◌∷◌, ℕ, suc, ◌+◌, ◌-◌, ◌*◌, ◌%◌, ◌^◌, ◌≤◌, ◌<◌, get_or, ℤ, pos, negsuc, ◌+ℤ◌, ◌*ℤ◌, Float, Result, Ok, Err}
 use Rattle.std.specs.Int.Signed.{shr_z}
 use Rattle.std.specs.Float.{fin, binary64}
 use Rattle.std.specs.Float.Ieee.{up, down, mul, of_bits, to_bits}
 use Rattle.std.specs.Float.Ieee.Exact.{HasValue}
+use Rattle.replies.specs.declared.Refusal.{Refusal}
 use Rattle.replies.specs.declared.Refusal.TheVariants.{StepOutOfRange}
 use Rattle.replies.specs.Refusal.{need, refusal_of, Plan, no, yes, planned}
 use Rattle.slip.specs.Slip.{is_step}
 use Rattle.amplitudes.specs.declared.Amplitudes.{Amplitudes}
-use Rattle.amplitudes.specs.declared.Amplified.{Amplified}
-use Rattle.amplitudes.specs.declared.Amplified.TheVariants.{Done, Refused}
 
 -- ---- the four constants
 
@@ -90,6 +89,6 @@ amplitudes_plan l r =
     planned (refusal_of (need StepOutOfRange (is_step l && is_step r) ∷ [])) (record { left = amplitude l; right = amplitude r })
 
 -- the answer of the code
-abbrev pub answer : Plan Amplitudes → Amplified
-answer (no r) = Refused r
-answer (yes a) = Done a
+abbrev pub answer : Plan Amplitudes → Result Amplitudes Refusal
+answer (no r) = Err r
+answer (yes a) = Ok a

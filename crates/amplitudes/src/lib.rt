@@ -17,13 +17,6 @@ pub struct Amplitudes {
     pub right: f64,
 }
 
-// The amplitudes of two step counts, or the refusal.
-#[derive(Clone, Copy)]
-pub enum Amplified {
-    Done(Amplitudes),
-    Refused(Refusal),
-}
-
 // The f64 nearest to the fourth roots of 1, 2, 4 and 8.
 const CONSTANTS: [f64; 4] = [
     1.0,
@@ -37,8 +30,7 @@ fn scaled(k: usize, field: u64) -> f64
     requires { (k < 4) × (field < 2047) }
     ensures { result ≡ mul binary64 (Amp.constant k) (of_bits binary64 (field * 4503599627370496)) }
 {
-    let constants = CONSTANTS;
-    constants[k] * f64::from_bits(field * 4503599627370496)
+    CONSTANTS[k] * f64::from_bits(field * 4503599627370496)
 }
 
 // 2 to the power of steps / 4. The division rounds down.
@@ -46,26 +38,20 @@ fn amplitude(steps: GainSteps) -> f64
     requires { is_step steps.0 ≡ true }
     ensures { result ≡ Amp.amplitude steps.0 }
 {
-    let a = integers::take_apart(steps.0);
-    let n = a.by as u64;
-    let k = (n % 4) as usize;
-    if a.down {
-        return scaled(3 - k, 1022 - n / 4);
-    }
-    scaled(k, 1023 + n / 4)
+    let k = steps.0.rem_euclid(4) as usize;
+    let field = (1023 + (steps.0 >> 2)) as u64;
+    scaled(k, field)
 }
 
 // The amplitudes of two step counts. Refusal 2.
-pub fn to_amplitudes(left: GainSteps, right: GainSteps) -> Amplified
+#[tactic(auto, unfolding(crate::specs::Amplitude::amplitudes_plan))]
+pub fn to_amplitudes(left: GainSteps, right: GainSteps) -> Result<Amplitudes, Refusal>
     ensures { result ≡ Amp.answer (Amp.amplitudes_plan left.0 right.0) }
 {
-    if !slip::is_step(left.0) {
-        return Amplified::Refused(Refusal::StepOutOfRange);
+    if !slip::is_step(left.0) || !slip::is_step(right.0) {
+        return Err(Refusal::StepOutOfRange);
     }
-    if !slip::is_step(right.0) {
-        return Amplified::Refused(Refusal::StepOutOfRange);
-    }
-    Amplified::Done(Amplitudes {
+    Ok(Amplitudes {
         left: amplitude(left),
         right: amplitude(right),
     })

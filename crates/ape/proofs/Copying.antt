@@ -20,9 +20,9 @@ pub record Progress (s : List ℕ) (count : ℕ) (out₀ : List ℕ) (at left n 
   pub few : n ≤ o
   pub wrote : Wrote out₀ 0 (area_bytes written) o out
 
-pub begin : (s : List ℕ) (count : ℕ) (out : List ℕ) → Progress s count out 0 count 0 0 out
+pub begin : (s : List ℕ) (count : ℕ) (out : List ℕ) (left : ℕ) → left ≡ count → Progress s count out 0 left 0 0 out
 unfolding area_bytes
-begin s count out = record { written = []; list = refl; counted = refl; few = omega arith; wrote = start out 0 (omega arith) }
+begin s count out left all = record { written = []; list = rw all refl; counted = refl; few = omega arith; wrote = start out 0 (omega arith) }
 
 one : (ts : List Item) (t : Item) → area_bytes (ts ++ (t ∷ [])) ≡ area_bytes ts ++ item_bytes t
 unfolding area_bytes
@@ -30,20 +30,20 @@ one ts t = area-append ts (t ∷ []) ∙ rw append-nil
 
 module _ {s : List ℕ} {count : ℕ} {out₀ : List ℕ} {at left n o : ℕ} {out : List ℕ} (p : Progress s count out₀ at left n o out) where
   -- there is room for the next item
-  pub fits : {g a b c d : ℕ} → Turn s at left g a b c d → length (area_bytes (read_items count s)) ≤ length out₀
+  pub fits : {m g a b c d : ℕ} → Turn s at left m g a b c d → length (area_bytes (read_items count s)) ≤ length out₀
       → o + length (item_bytes (converted g (part a b s) (part c d s))) ≤ length out₀
   unfolding area_bytes
-  fits {g} {a} {b} {c} {d} t h =
+  fits {m} {g} {a} {b} {c} {d} t h =
       let x = converted g (part a b s) (part c d s) in
-      let e : length (area_bytes (read_items count s)) ≡ length (area_bytes p.written) + (length (item_bytes x) + length (area_bytes (read_items (left - 1) (drop d s)))) =
+      let e : length (area_bytes (read_items count s)) ≡ length (area_bytes p.written) + (length (item_bytes x) + length (area_bytes (read_items m (drop d s)))) =
       rw (p.list, t.list, area-append, length-append, length-append) in
       omega (arith, e, p.wrote.ends)
 
   -- and then it is written
-  pub turned : {g a b c d r : ℕ} {ys : List ℕ} → Turn s at left g a b c d
+  pub turned : {m g a b c d r : ℕ} {ys : List ℕ} → Turn s at left m g a b c d
       → let w = item_bytes (converted g (part a b s) (part c d s)) in (r ≡ o + length w) × (ys ≡ splice out o w)
-      → Progress s count out₀ d (left - 1) (n + 1) r ys
-  turned {g} {a} {b} {c} {d} {r} {ys} t e =
+      → Progress s count out₀ d m (n + 1) r ys
+  turned {m} {g} {a} {b} {c} {d} {r} {ys} t e =
       let x = converted g (part a b s) (part c d s) in
       record {
         written = p.written ++ (x ∷ []);

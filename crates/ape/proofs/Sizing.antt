@@ -1,65 +1,52 @@
 -- What the answer of a conversion tells of its length, and the other way round.
+use Rattle.std.specs.Prelude.{option_map, Option, None, Some, is_some}
 use Prim.Native.Nat.{ℕ, ◌≤◌, ◌<◌, min}
 use native.Mathlib.Omega.{arith}
 use mathlib.Core.Path.{◌≡◌, refl, sym, ap, ◌∙◌}
-use mathlib.Core.Bool.{Bool, true, false, ◌&&◌}
+use mathlib.Core.Bool.{Bool, true, false, cond, ◌&&◌}
 use mathlib.Core.List.{List}
 use lib.ListN.{length}
 use lib.Dec.{leb, ltb}
 use borrow.Author.Tests.{ltb-true, ltb-false, lt-ltb, le-ltb, leb-true, leb-false, le-leb, lt-leb}
-use Rattle.lossy.specs.declared.Converted.{Converted}
-use Rattle.lossy.specs.declared.Converted.TheVariants.{Done, NoRoom}
-use Rattle.lossy.specs.Write.{answer, within}
+use Rattle.lossy.specs.Write.{within}
 use Rattle.items.specs.Items.{Item, area_bytes}
+use Rattle.items.specs.declared.Size.{Size}
 use Rattle.ape.specs.Answers.{measured_as}
-use Rattle.ape.specs.declared.Measured.{Measured}
-use Rattle.ape.specs.declared.Measured.TheVariants.{Items, NoRoom as TooLong}
 
 module _ (w : List ℕ) (room : ℕ) where
-  pub fits_told : {x : Converted} {n : ℕ} → x ≡ answer (within room w) → x ≡ Done n → (n ≡ length w) × (length w ≤ room)
+  pub fits_told : {x : Option ℕ} {n : ℕ} → x ≡ option_map length (within room w) → x ≡ Some n → (n ≡ length w) × (length w ≤ room)
   fits_told {x} {n} e f = go (ltb room (length w)) refl
     where
       go : (t : Bool) → ltb room (length w) ≡ t → (n ≡ length w) × (length w ≤ room)
       go true p =
-          let q : x ≡ NoRoom = e ∙ rw p in
+          let q : x ≡ None = e ∙ rw p in
           absurd (let z : ◌≡◌ {A = ℕ} 0 1 = cc in omega arith)
-      go false p = let q : x ≡ Done (length w) = e ∙ rw p in (cc, ltb-false _ _ p)
+      go false p = let q : x ≡ Some (length w) = e ∙ rw p in (cc, ltb-false _ _ p)
 
-  pub none_told : {x : Converted} → x ≡ answer (within room w) → x ≡ NoRoom → room < length w
+  pub none_told : {x : Option ℕ} → x ≡ option_map length (within room w) → x ≡ None → room < length w
   none_told {x} e f = go (ltb room (length w)) refl
     where
       go : (t : Bool) → ltb room (length w) ≡ t → room < length w
       go true p = ltb-true _ _ p
       go false p =
-          let q : x ≡ Done (length w) = e ∙ rw p in
+          let q : x ≡ Some (length w) = e ∙ rw p in
           absurd (let z : ◌≡◌ {A = ℕ} 0 1 = cc in omega arith)
 
-  pub tell-fits : (n : ℕ) → n ≡ length w → length w ≤ room → Done n ≡ answer (within room w)
-  tell-fits n e h = ap Done e ∙ rw (le-ltb _ _ h)
+  pub tell-fits : (n : ℕ) → n ≡ length w → length w ≤ room → Some n ≡ option_map length (within room w)
+  tell-fits n e h = ap Some e ∙ rw (le-ltb _ _ h)
 
-  pub tell_none : room < length w → NoRoom ≡ answer (within room w)
+  pub tell_none : room < length w → None ≡ option_map length (within room w)
   tell_none h = rw (lt-ltb _ _ h)
 
 -- ---- areas that are measured
 
-module _ (room : ℕ) (ts : List Item) where
-  pub measured-yes : {x : Measured} {a b : ℕ} → x ≡ measured_as room ts → x ≡ Items a b → true ≡ leb (length (area_bytes ts)) room
-  measured-yes {x} {a} {b} e f = go (leb (length (area_bytes ts)) room) refl
-    where
-      go : (t : Bool) → leb (length (area_bytes ts)) room ≡ t → true ≡ leb (length (area_bytes ts)) room
-      go true p = sym p
-      go false p =
-          let q : x ≡ TooLong = e ∙ rw p in
-          absurd (let z : ◌≡◌ {A = ℕ} 0 1 = cc in omega arith)
-
-  pub measured-no : {x : Measured} → x ≡ measured_as room ts → x ≡ TooLong → false ≡ leb (length (area_bytes ts)) room
-  measured-no {x} e f = go (leb (length (area_bytes ts)) room) refl
-    where
-      go : (t : Bool) → leb (length (area_bytes ts)) room ≡ t → false ≡ leb (length (area_bytes ts)) room
-      go true p =
-          let q : x ≡ Items (length ts) (length (area_bytes ts)) = e ∙ rw p in
-          absurd (let z : ◌≡◌ {A = ℕ} 0 1 = cc in omega arith)
-      go false p = sym p
+-- whether an area was measured says whether it has room
+pub measured : (room : ℕ) (ts : List Item) → is_some (measured_as room ts) ≡ leb (length (area_bytes ts)) room
+measured room ts = go (leb (length (area_bytes ts)) room)
+  where
+    go : (t : Bool) → is_some {T = Size} (cond t (Some (record { count = length ts; length = length (area_bytes ts) })) None) ≡ t
+    go true = refl
+    go false = refl
 
 -- ---- refusal 5
 

@@ -3,7 +3,7 @@ use Prim.Native.Nat.{ℕ, ◌+◌, ◌-◌, ◌≤◌}
 use native.Mathlib.Omega.{arith}
 use mathlib.Core.Path.{◌≡◌, refl, sym, ap, ◌∙◌}
 use mathlib.Core.Bool.{Bool, true, false, ◌&&◌, cond}
-use mathlib.Core.Option.{Option, none, some}
+use Rattle.std.specs.Prelude.{Option, None, Some}
 use mathlib.Core.List.{List, ◌++◌}
 use lib.ListN.{length, length-append}
 use lib.Seq.{drop-append-add, drop-append_seam}
@@ -15,26 +15,24 @@ use Rattle.frame.specs.Tail.{preamble, id3v1_mark, stands_at, ends_with_id3v1}
 use Rattle.frame.proofs.Tails.{stands-in}
 use Rattle.items.specs.Items.{Item}
 use Rattle.ape.specs.Tag.{find_footer, footed, version_at, size_at, count_at, area_at, read_items, read_tag}
-use Rattle.ape.specs.declared.Footer.{Footer}
-use Rattle.ape.specs.declared.Footer.TheVariants.{At, Nowhere}
 
 -- a number behind a
 pub at-seam : (a b : List ℕ) (i : ℕ) → read_u32 (a ++ b) (length a + i) ≡ read_u32 b i
 at-seam a b i = sym (read-drop (a ++ b) (length a) i) ∙ ap (λ (l : List ℕ). read_u32 l i) (drop-append_seam a b)
 
 -- a footer so many bytes further on
-abbrev pub further : ℕ → Footer → Footer
-further n Nowhere = Nowhere
-further n (At f) = At (n + f)
+abbrev pub further : ℕ → Option ℕ → Option ℕ
+further n None = None
+further n (Some f) = Some (n + f)
 
 -- where a footer stands in n bytes, by the two tests
-abbrev footer_by : Bool → Bool → ℕ → Footer
-footer_by x y n = cond x (At (n - 32)) (cond y (At (n - 160)) Nowhere)
+abbrev footer_by : Bool → Bool → ℕ → Option ℕ
+footer_by x y n = cond x (Some (n - 32)) (cond y (Some (n - 160)) None)
 
 module _ (a b : List ℕ) (long : 160 ≤ length b) where
   by-further : (x y : Bool) → footer_by x y (length a + length b) ≡ further (length a) (footer_by x y (length b))
-  by-further true y = ap At (omega arith)
-  by-further false true = ap At (omega arith)
+  by-further true y = ap Some (omega arith)
+  by-further false true = ap Some (omega arith)
   by-further false false = refl
 
   pub footer-in-tail : find_footer (a ++ b) ≡ further (length a) (find_footer b)
@@ -55,15 +53,15 @@ module _ (a b : List ℕ) (long : 160 ≤ length b) where
       let e : length a + f + 32 - size_at b f ≡ length a + (f + 32 - size_at b f) = omega arith in
       rw (number-in-tail f 12, e, drop-append-add)
 
-  pub read-in-tail : ((f : ℕ) → find_footer b ≡ At f → size_at b f ≤ f + 32) → read_tag (a ++ b) ≡ read_tag b
+  pub read-in-tail : ((f : ℕ) → find_footer b ≡ Some f → size_at b f ≤ f + 32) → read_tag (a ++ b) ≡ read_tag b
   unfolding read_tag
   read-in-tail fits = rw footer-in-tail (go (find_footer b) refl)
     where
-      read : Footer → List ℕ → Option (List Item)
-      read x s = footed x none (λ f. cond (eqb (version_at s f) 2000 && leb (size_at s f) (f + 32)) (some (read_items (count_at s f) (area_at s f))) none)
+      read : Option ℕ → List ℕ → Option (List Item)
+      read x s = footed x None (λ f. cond (eqb (version_at s f) 2000 && leb (size_at s f) (f + 32)) (Some (read_items (count_at s f) (area_at s f))) None)
 
-      go : (x : Footer) → find_footer b ≡ x → read (further (length a) x) (a ++ b) ≡ read x b
-      go Nowhere q = refl
-      go (At f) q =
+      go : (x : Option ℕ) → find_footer b ≡ x → read (further (length a) x) (a ++ b) ≡ read x b
+      go None q = refl
+      go (Some f) q =
           let h : size_at b f ≤ f + 32 = fits f q in
           rw (number-in-tail f 8, number-in-tail f 12, number-in-tail f 16, area-in-tail f h, le-leb (size_at b f) (length a + f + 32) (omega arith), le-leb (size_at b f) (f + 32) h)

@@ -1,15 +1,11 @@
 -- Tags in files: the APEv2 specification's layout, and document 01's "Footer and tail", "Item area, UTF-8 and reading" and "Editing and writing".
 use Rattle.std.specs.Prelude.{ℕ, zero, suc, ◌+◌, ◌-◌, ◌&&◌, cond, List, [], ◌∷◌, ◌++◌, length, take, drop, leb, eqb}
-use Rattle.std.proofs.Math.Option.{Option, none, some}
+use Rattle.std.specs.Prelude.{Option, None, Some}
 use Rattle.lists.specs.Choice.{found}
 use Rattle.lists.specs.Le.{u32le, read_u32}
 use Rattle.frame.specs.Tail.{preamble, stands_at, ends_with_id3v1, tag_start}
-use Rattle.frame.specs.declared.TagStart.{TagStart}
-use Rattle.frame.specs.declared.TagStart.TheVariants.{At as StartAt, Nowhere as NoStart}
 use Rattle.lossy.specs.Lossy.{lossy}
 use Rattle.items.specs.Items.{Item, area_bytes, is_binary, head}
-use Rattle.ape.specs.declared.Footer.{Footer}
-use Rattle.ape.specs.declared.Footer.TheVariants.{At, Nowhere}
 
 -- ---- a tag as bytes
 
@@ -40,20 +36,20 @@ serialize (t ∷ ts) = tag_bytes (t ∷ ts)
 -- ---- the footer of a file
 
 -- at EOF-32; else at EOF-160, if `TAG` stands at EOF-128
-unfoldable pub find_footer : List ℕ → Footer
+unfoldable pub find_footer : List ℕ → Option ℕ
 find_footer s =
-    cond (stands_at 32 preamble s) (At (length s - 32))
-    (cond (stands_at 160 preamble s && ends_with_id3v1 s) (At (length s - 160)) Nowhere)
+    cond (stands_at 32 preamble s) (Some (length s - 32))
+    (cond (stands_at 160 preamble s && ends_with_id3v1 s) (Some (length s - 160)) None)
 
 -- a search for a footer taken apart
-abbrev pub footed : {A : Type 0} → Footer → A → (ℕ → A) → A
-footed Nowhere a g = a
-footed (At f) a g = g f
+abbrev pub footed : {A : Type 0} → Option ℕ → A → (ℕ → A) → A
+footed None a g = a
+footed (Some f) a g = g f
 
 -- a search for a start taken apart
-abbrev pub started : {A : Type 0} → TagStart → A → (ℕ → A) → A
-started NoStart a g = a
-started (StartAt n) a g = g n
+abbrev pub started : {A : Type 0} → Option ℕ → A → (ℕ → A) → A
+started None a g = a
+started (Some n) a g = g n
 
 -- the version that the footer at f holds
 abbrev pub version_at : List ℕ → ℕ → ℕ
@@ -89,8 +85,8 @@ read_items (suc n) s = found (head s) [] (λ h. converted h.item.flags h.item.ke
 -- no tag without a footer, of another version, or where the size passes the footer's end; the header is not looked at
 unfoldable pub read_tag : List ℕ → Option (List Item)
 read_tag s =
-    footed (find_footer s) none (λ f.
-    cond (eqb (version_at s f) 2000 && leb (size_at s f) (f + 32)) (some (read_items (count_at s f) (area_at s f))) none)
+    footed (find_footer s) None (λ f.
+    cond (eqb (version_at s f) 2000 && leb (size_at s f) (f + 32)) (Some (read_items (count_at s f) (area_at s f))) None)
 
 -- ---- replacement
 

@@ -1,59 +1,21 @@
 // The tag of a file found and read: find_ape_footer and read_ape_tag.
 #![tactic(auto)]
 
-ghost use Rattle.std.specs.Prelude.{◌≡◌, true, ◌≤◌, ◌<◌, ◌+◌, min, ◌-◌, leb, length, drop};
+ghost use Rattle.std.specs.Prelude.{option_map, ◌≡◌, true, ◌≤◌, ◌<◌, ◌+◌, min, ◌-◌, leb, length, drop};
 ghost use Rattle.lists.specs.Bytes.{starts_with};
 ghost use Rattle.lists.specs.Write.{over, splice};
 ghost use Rattle.frame.specs.Tail.{preamble};
 ghost use Rattle.utf8.specs.Utf8.{Classes};
-ghost use Rattle.lossy.specs.Write.{answer, within};
+ghost use Rattle.lossy.specs.Write.{within};
 ghost use Rattle.items.specs.Items.{area_bytes, item_bytes};
 ghost use Rattle.ape.specs.Tag.{find_footer, read_value, converted, read_items};
 ghost use Rattle.ape.specs.Answers.{footer_plan, footer_answer, measured_as, items_plan, read_plan, read_answer, read_bytes};
 
-use frame::TagStart;
-use items::Stepped;
-use lossy::Converted;
+use items::{Size, Stepped};
 use replies::Refusal;
 
-const APE_VERSION: u32 = 2000;
-
-// Where the footer of a file's tag stands.
-#[derive(Clone, Copy)]
-pub enum Footer {
-    At(usize),
-    Nowhere,
-}
-
-// What a search for the footer of a lent file answers.
-#[derive(Clone, Copy)]
-pub enum FooterFound {
-    At(usize),
-    Nowhere,
-    Refused(Refusal),
-}
-
-// What reading a file's tag answers: the items' count and the length of the area written.
-#[derive(Clone, Copy)]
-pub enum TagRead {
-    NoTag,
-    Items { count: usize, length: usize },
-    Refused(Refusal),
-}
-
-// How many items are read, and how many bytes they have once their texts are converted; or more than there is room for.
-#[derive(Clone, Copy)]
-pub enum Measured {
-    Items { count: usize, length: usize },
-    NoRoom,
-}
-
-// How many items an area holds, and how many bytes it has.
-#[derive(Clone, Copy)]
-pub struct Area {
-    pub count: usize,
-    pub length: usize,
-}
+// The version that a header and a footer name.
+pub const APE_VERSION: u32 = 2000;
 
 // Whether the preamble stands in `file` at `at`. Its bytes are compared four at a time, as numbers.
 fn is_preamble(file: &[u8], at: usize) -> bool
@@ -68,41 +30,37 @@ fn is_preamble(file: &[u8], at: usize) -> bool
 }
 
 // The footer at EOF-32; else the one at EOF-160, before an ID3v1 block.
-pub fn find_footer(file: &[u8]) -> Footer
+pub fn find_footer(file: &[u8]) -> Option<usize>
     ensures { result ≡ find_footer file.now }
 {
     if file.len() < 32 {
-        return Footer::Nowhere;
+        return None;
     }
     let last = file.len() - 32;
     if is_preamble(file, last) {
-        return Footer::At(last);
+        return Some(last);
     }
     if file.len() < 160 {
-        return Footer::Nowhere;
+        return None;
     }
     let before = file.len() - 160;
     if !is_preamble(file, before) {
-        return Footer::Nowhere;
+        return None;
     }
     if !frame::ends_with_id3v1(file) {
-        return Footer::Nowhere;
+        return None;
     }
-    Footer::At(before)
+    Some(before)
 }
 
 // The same of a lent file: refusal 1.
-pub fn find_ape_footer(file: &[u8]) -> FooterFound
+pub fn find_ape_footer(file: &[u8]) -> Result<Option<usize>, Refusal>
     ensures { result ≡ footer_answer (footer_plan file.now) }
 {
     if replies::FILE_LIMIT < file.len() {
-        return FooterFound::Refused(Refusal::FileTooLong);
+        return Err(Refusal::FileTooLong);
     }
-    let found = find_footer(file);
-    let Footer::At(at) = found else {
-        return FooterFound::Nowhere;
-    };
-    FooterFound::At(at)
+    Ok(find_footer(file))
 }
 
 // Writes a value as it is read into `out` from `at`, and answers where it ends.
@@ -118,17 +76,17 @@ fn put_value(table: &[u8; 256], out: &mut [u8], at: usize, flags: u32, value: &[
 }
 
 // How many bytes a value has as it is read, where that is at most `room`.
-fn value_size(table: &[u8; 256], flags: u32, value: &[u8], room: usize) -> Converted
+fn value_size(table: &[u8; 256], flags: u32, value: &[u8], room: usize) -> Option<usize>
     requires { Classes table.now }
-    ensures { result ≡ answer (within room (read_value flags value.now)) }
+    ensures { result ≡ option_map length (within room (read_value flags value.now)) }
 {
     if !items::is_binary(flags) {
         return lossy::lossy_within(table, value, room);
     }
     if room < value.len() {
-        return Converted::NoRoom;
+        return None;
     }
-    Converted::Done(value.len())
+    Some(value.len())
 }
 
 // Writes an item, its key and value as they are read, into `out` from `at`, and answers where it ends. The texts come first: their length is
@@ -155,111 +113,91 @@ fn put_item(
 }
 
 // How many bytes an item has once its key and value are converted, where that is at most `room`.
-fn converted_size(table: &[u8; 256], flags: u32, key: &[u8], value: &[u8], room: usize) -> Converted
+fn converted_size(
+    table: &[u8; 256],
+    flags: u32,
+    key: &[u8],
+    value: &[u8],
+    room: usize,
+) -> Option<usize>
     requires { Classes table.now }
-    ensures { result ≡ answer (within room (item_bytes (converted flags key.now value.now))) }
+    ensures { result ≡ option_map length (within room (item_bytes (converted flags key.now value.now))) }
 {
-    let k = lossy::lossy_within(table, key, room);
-    let Converted::Done(a) = k else {
-        return Converted::NoRoom;
-    };
-    let v = value_size(table, flags, value, room - a);
-    let Converted::Done(b) = v else {
-        return Converted::NoRoom;
-    };
+    let a = lossy::lossy_within(table, key, room)?;
+    let b = value_size(table, flags, value, room - a)?;
     let n = a + b;
     if room - n < 9 {
-        return Converted::NoRoom;
+        return None;
     }
-    Converted::Done(n + 9)
+    Some(n + 9)
 }
 
 // How many of at most `count` items are read from these bytes, and how long their area is, where that is at most `room`.
-fn measure_items(table: &[u8; 256], items: &[u8], count: usize, room: usize) -> Measured
+fn measure_items(table: &[u8; 256], items: &[u8], count: usize, room: usize) -> Option<Size>
     requires { Classes table.now }
     ensures { result ≡ measured_as room (read_items count items.now) }
 {
     let mut at = 0;
-    let mut left = count;
-    let mut n = 0;
-    let mut size = 0;
-    while 0 < left {
-        let s = items::step(items, at);
+    let mut length = 0;
+    for read in 0..count {
         let Stepped::Item {
             flags,
             key_start,
             key_end,
             value_start,
             value_end,
-        } = s
+        } = items::step(items, at)
         else {
-            return Measured::Items {
-                count: n,
-                length: size,
-            };
+            return Some(Size {
+                count: read,
+                length,
+            });
         };
-        let z = converted_size(
+        length += converted_size(
             table,
             flags,
             &items[key_start..key_end],
             &items[value_start..value_end],
-            room - size,
-        );
-        let Converted::Done(item) = z else {
-            return Measured::NoRoom;
-        };
-        size += item;
-        n += 1;
+            room - length,
+        )?;
         at = value_end;
-        left -= 1;
     }
-    Measured::Items {
-        count: n,
-        length: size,
-    }
+    Some(Size { count, length })
 }
 
 // Writes the items that are read from these bytes to the front of `out`: how many, and how long their area is.
-fn write_items(table: &[u8; 256], items: &[u8], count: usize, out: &mut [u8]) -> Area
+fn write_items(table: &[u8; 256], items: &[u8], count: usize, out: &mut [u8]) -> Size
     requires { (Classes table.now) × (length items.now ≤ 16777216) × (length (area_bytes (read_items count items.now)) ≤ length out.old) }
     ensures { let ts = read_items count items.now in
         (result.count ≡ length ts) × (result.length ≡ length (area_bytes ts)) × (out.new ≡ over (area_bytes ts) out.old) }
 {
     let mut at = 0;
-    let mut left = count;
-    let mut n = 0;
-    let mut o = 0;
-    while 0 < left {
-        let s = items::step(items, at);
+    let mut length = 0;
+    for read in 0..count {
         let Stepped::Item {
             flags,
             key_start,
             key_end,
             value_start,
             value_end,
-        } = s
+        } = items::step(items, at)
         else {
-            return Area {
-                count: n,
-                length: o,
+            return Size {
+                count: read,
+                length,
             };
         };
-        o = put_item(
+        length = put_item(
             table,
             out,
-            o,
+            length,
             flags,
             &items[key_start..key_end],
             &items[value_start..value_end],
         );
-        n += 1;
         at = value_end;
-        left -= 1;
     }
-    Area {
-        count: n,
-        length: o,
-    }
+    Size { count, length }
 }
 
 // Whether the area of the items that are read from these bytes has room. Room for three times the bytes is enough, with no pass to measure.
@@ -270,40 +208,20 @@ fn items_fit(table: &[u8; 256], items: &[u8], count: usize, room: usize) -> bool
     if items.len() <= room / 3 {
         return true;
     }
-    let m = measure_items(table, items, count, room);
-    match m {
-        Measured::Items {
-            count: _,
-            length: _,
-        } => true,
-        Measured::NoRoom => false,
-    }
+    measure_items(table, items, count, room).is_some()
 }
 
 // Reads at most `count` items from these bytes into `out`: refusal 5.
-fn read_items(items: &[u8], count: usize, out: &mut [u8]) -> TagRead
+fn read_items(items: &[u8], count: usize, out: &mut [u8]) -> Result<Option<Size>, Refusal>
     requires { length items.now ≤ 16777216 }
     ensures { let plan = items_plan (length out.old) (read_items count items.now) in
         (result ≡ read_answer plan) × (out.new ≡ over (read_bytes plan) out.old) }
 {
     let table = utf8::table::CLASS;
-    if !items_fit(&table, items, count, least(out.len(), replies::FILE_LIMIT)) {
-        return TagRead::Refused(Refusal::NoRoom);
+    if !items_fit(&table, items, count, out.len().min(replies::FILE_LIMIT)) {
+        return Err(Refusal::NoRoom);
     }
-    let a = write_items(&table, items, count, out);
-    TagRead::Items {
-        count: a.count,
-        length: a.length,
-    }
-}
-
-fn least(a: usize, b: usize) -> usize
-    ensures { result ≡ min a b }
-{
-    if a < b {
-        return a;
-    }
-    b
+    Ok(Some(write_items(&table, items, count, out)))
 }
 
 // Where the items begin that end at `footer`: at the footer itself where the size is under 32.
@@ -319,23 +237,22 @@ fn items_start(footer: usize, size: usize) -> usize
 
 // Reads the tag of a file into `area`: no tag, or how many items it has and how long their area is. It takes no notice
 // of a key that comes twice. Refusals 1 and 5.
-pub fn read_ape_tag(file: &[u8], area: &mut [u8]) -> TagRead
+pub fn read_ape_tag(file: &[u8], area: &mut [u8]) -> Result<Option<Size>, Refusal>
     ensures { let plan = read_plan file.now (length area.old) in
         (result ≡ read_answer plan) × (area.new ≡ over (read_bytes plan) area.old) }
 {
     if replies::FILE_LIMIT < file.len() {
-        return TagRead::Refused(Refusal::FileTooLong);
+        return Err(Refusal::FileTooLong);
     }
-    let found = find_footer(file);
-    let Footer::At(footer) = found else {
-        return TagRead::NoTag;
+    let Some(footer) = find_footer(file) else {
+        return Ok(None);
     };
     if frame::read_u32_le(file, footer + 8) != APE_VERSION {
-        return TagRead::NoTag;
+        return Ok(None);
     }
     let size = frame::read_u32_le(file, footer + 12) as usize;
     if footer + 32 < size {
-        return TagRead::NoTag;
+        return Ok(None);
     }
     let count = frame::read_u32_le(file, footer + 16) as usize;
     let start = items_start(footer, size);

@@ -1,4 +1,5 @@
 -- Laws of `cut_of` and `tag_cut`: where a file is cut, by the tests of the code, and that it leaves the parts that `split` says.
+use Rattle.std.specs.Prelude.{Option, None, Some}
 use Prim.Native.Nat.{ℕ, zero, suc, ◌+◌, ◌-◌, ◌≤◌, ◌<◌}
 use native.Mathlib.Omega.{arith}
 use mathlib.Core.Path.{◌≡◌, refl, sym, ap, ◌∙◌}
@@ -11,15 +12,11 @@ use borrow.Author.Tests.{leb-true, ltb-true, ltb-false, lt-ltb, le-ltb}
 use Rattle.lists.specs.Bytes.{starts_with}
 use Rattle.lists.specs.Write.{part}
 use Rattle.frame.specs.Tail.{id3v1_mark, stands_at, ends_with_id3v1, tag_start}
-use Rattle.frame.specs.declared.TagStart.{TagStart}
-use Rattle.frame.specs.declared.TagStart.TheVariants.{At as StartAt, Nowhere as NoStart}
 use Rattle.frame.proofs.Tails.{id3v1-long, start-within}
 use Rattle.lists.proofs.Wrote.{Wrote}
 use Rattle.lists.proofs.Places.{length_part}
 use Rattle.items.specs.Items.{Item}
 use Rattle.ape.specs.Tag.{Split, find_footer, moved, split, serialize, file_of, replaced}
-use Rattle.ape.specs.declared.Footer.{Footer}
-use Rattle.ape.specs.declared.Footer.TheVariants.{At, Nowhere}
 use Rattle.ape_replace.specs.declared.Cut.{Cut}
 use Rattle.ape_replace.specs.Answers.{cut, tag_cut, audio_cut, cut_of, Cuts}
 
@@ -83,38 +80,38 @@ module _ (s : List ℕ) where
   -- ---- the cut, by the tests of the code
 
   -- all is audio
-  pub cut-none : find_footer s ≡ Nowhere → audio_cut s (length s) ≡ cut_of s
+  pub cut-none : find_footer s ≡ None → audio_cut s (length s) ≡ cut_of s
   unfolding cut_of
   cut-none e = rw e
 
-  module _ (f : ℕ) (at : find_footer s ≡ At f) where
-    pub cut-unstarted : tag_start s f ≡ NoStart → audio_cut s (length s) ≡ cut_of s
+  module _ (f : ℕ) (at : find_footer s ≡ Some f) where
+    pub cut-unstarted : tag_start s f ≡ None → audio_cut s (length s) ≡ cut_of s
     unfolding cut_of
     cut-unstarted e = rw (at, e)
 
     -- something follows the footer
-    pub cut-rest : (a : ℕ) → tag_start s f ≡ StartAt a → f + 32 < length s → cut a (f + 32) (length s) ≡ cut_of s
+    pub cut-rest : (a : ℕ) → tag_start s f ≡ Some a → f + 32 < length s → cut a (f + 32) (length s) ≡ cut_of s
     unfolding cut_of
     cut-rest a e h = rw (at, e, lt-ltb _ _ h)
 
     -- nothing does
-    pub cut-last : (a : ℕ) → tag_start s f ≡ StartAt a → length s ≤ f + 32 → audio_cut s a ≡ cut_of s
+    pub cut-last : (a : ℕ) → tag_start s f ≡ Some a → length s ≤ f + 32 → audio_cut s a ≡ cut_of s
     unfolding cut_of
     cut-last a e h = rw (at, e, le-ltb _ _ h)
 
   -- ---- the cut around the tag alone
 
   -- all is audio
-  pub tag-none : find_footer s ≡ Nowhere → cut (length s) (length s) (length s) ≡ tag_cut s
+  pub tag-none : find_footer s ≡ None → cut (length s) (length s) (length s) ≡ tag_cut s
   unfolding tag_cut
   tag-none e = rw e
 
-  module _ (f : ℕ) (at : find_footer s ≡ At f) where
-    pub tag-unstarted : tag_start s f ≡ NoStart → cut (length s) (length s) (length s) ≡ tag_cut s
+  module _ (f : ℕ) (at : find_footer s ≡ Some f) where
+    pub tag-unstarted : tag_start s f ≡ None → cut (length s) (length s) (length s) ≡ tag_cut s
     unfolding tag_cut
     tag-unstarted e = rw (at, e)
 
-    pub tag-started : (a : ℕ) → tag_start s f ≡ StartAt a → cut a (f + 32) (length s) ≡ tag_cut s
+    pub tag-started : (a : ℕ) → tag_start s f ≡ Some a → cut a (f + 32) (length s) ≡ tag_cut s
     unfolding tag_cut
     tag-started a e = rw (at, e)
 
@@ -123,14 +120,14 @@ module _ (s : List ℕ) where
   unfolding cut_of tag_cut
   cut-by-tag = go (find_footer s) refl
     where
-      begun : (f : ℕ) (at : find_footer s ≡ At f) (t : TagStart) → tag_start s f ≡ t
+      begun : (f : ℕ) (at : find_footer s ≡ Some f) (t : Option ℕ) → tag_start s f ≡ t
           → cut_of s ≡ cond (ltb (tag_cut s).from (tag_cut s).to) (tag_cut s) (audio_cut s (tag_cut s).front)
-      begun f at (StartAt a) e = rw (at, e)
-      begun f at NoStart e = rw (at, e, le-ltb (length s) (length s) (omega arith))
+      begun f at (Some a) e = rw (at, e)
+      begun f at None e = rw (at, e, le-ltb (length s) (length s) (omega arith))
 
-      go : (x : Footer) → find_footer s ≡ x → cut_of s ≡ cond (ltb (tag_cut s).from (tag_cut s).to) (tag_cut s) (audio_cut s (tag_cut s).front)
-      go (At f) at = begun f at (tag_start s f) refl
-      go Nowhere e = rw (e, le-ltb (length s) (length s) (omega arith))
+      go : (x : Option ℕ) → find_footer s ≡ x → cut_of s ≡ cond (ltb (tag_cut s).from (tag_cut s).to) (tag_cut s) (audio_cut s (tag_cut s).front)
+      go (Some f) at = begun f at (tag_start s f) refl
+      go None e = rw (e, le-ltb (length s) (length s) (omega arith))
 
   module _ (c : Cut) (is : c ≡ tag_cut s) where
     -- something follows the tag
@@ -146,16 +143,16 @@ module _ (s : List ℕ) where
   all-audio : CutsAs (moved s []) s (audio_cut s (length s))
   all-audio = rw (take_all (length s) s (omega arith)) at (audio-cuts s (length s) (omega arith))
 
-  split-none : find_footer s ≡ Nowhere → split s ≡ moved s []
+  split-none : find_footer s ≡ None → split s ≡ moved s []
   unfolding split
   split-none e = rw e
 
-  module _ (f : ℕ) (at : find_footer s ≡ At f) where
-    split-unstarted : tag_start s f ≡ NoStart → split s ≡ moved s []
+  module _ (f : ℕ) (at : find_footer s ≡ Some f) where
+    split-unstarted : tag_start s f ≡ None → split s ≡ moved s []
     unfolding split
     split-unstarted e = rw (at, e)
 
-    split_rest : (a : ℕ) → tag_start s f ≡ StartAt a → f + 32 < length s → CutsAs (split s) s (cut a (f + 32) (length s))
+    split_rest : (a : ℕ) → tag_start s f ≡ Some a → f + 32 < length s → CutsAs (split s) s (cut a (f + 32) (length s))
     unfolding split moved
     split_rest a e h =
         rw (at, e) (go (drop (f + 32) s) refl)
@@ -167,11 +164,11 @@ module _ (s : List ℕ) where
         go [] q = absurd (omega (arith, length-drop (f + 32) s, ap length q))
         go (b ∷ bs) q = record { front-is = refl; back_is = all ∙ q; front-within = omega (arith, start-within s f a e); order = omega arith; within = omega arith }
 
-    split-last : (a : ℕ) → tag_start s f ≡ StartAt a → length s ≤ f + 32 → split s ≡ moved (take a s) []
+    split-last : (a : ℕ) → tag_start s f ≡ Some a → length s ≤ f + 32 → split s ≡ moved (take a s) []
     unfolding split
     split-last a e h = rw (at, e, drop_of_length-le s {i = f + 32} h)
 
-    split_started : (a : ℕ) → tag_start s f ≡ StartAt a → CutsAs (split s) s (cut_of s)
+    split_started : (a : ℕ) → tag_start s f ≡ Some a → CutsAs (split s) s (cut_of s)
     split_started a e = go (ltb (f + 32) (length s)) refl
       where
         go : (t : Bool) → ltb (f + 32) (length s) ≡ t → CutsAs (split s) s (cut_of s)
@@ -183,13 +180,13 @@ module _ (s : List ℕ) where
   pub cut-is : CutsAs (split s) s (cut_of s)
   cut-is = go (find_footer s) refl
     where
-      begun : (f : ℕ) (at : find_footer s ≡ At f) (t : TagStart) → tag_start s f ≡ t → CutsAs (split s) s (cut_of s)
-      begun f at (StartAt a) e = split_started f at a e
-      begun f at NoStart e = rw (← cut-unstarted f at e, split-unstarted f at e) all-audio
+      begun : (f : ℕ) (at : find_footer s ≡ Some f) (t : Option ℕ) → tag_start s f ≡ t → CutsAs (split s) s (cut_of s)
+      begun f at (Some a) e = split_started f at a e
+      begun f at None e = rw (← cut-unstarted f at e, split-unstarted f at e) all-audio
 
-      go : (x : Footer) → find_footer s ≡ x → CutsAs (split s) s (cut_of s)
-      go (At f) at = begun f at (tag_start s f) refl
-      go Nowhere e = rw (← cut-none e, split-none e) all-audio
+      go : (x : Option ℕ) → find_footer s ≡ x → CutsAs (split s) s (cut_of s)
+      go (Some f) at = begun f at (tag_start s f) refl
+      go None e = rw (← cut-none e, split-none e) all-audio
 
   -- so does the answer of the code
   pub cuts-as : (c : Cut) → c ≡ cut_of s → CutsAs (split s) s c

@@ -9,9 +9,6 @@ ghost use Rattle.ape.specs.Tag.{split, replaced};
 ghost use Rattle.ape_write.specs.Answers.{written_answer, written_bytes};
 ghost use Rattle.ape_replace.specs.Answers.{room_plan, replace_plan, tag_cut, audio_cut, cut_of, Cuts};
 
-use ape::Footer;
-use ape_write::Written;
-use frame::TagStart;
 use replies::Refusal;
 
 // Where a file is cut: what precedes its tag ends at `front`, and what follows it stands between `from` and `to`.
@@ -46,12 +43,10 @@ pub fn cut_audio(file: &[u8], end: usize) -> Cut
 pub fn split_ape_tag(file: &[u8]) -> Cut
     ensures { result ≡ cut_of file.now }
 {
-    let found = ape::find_footer(file);
-    let Footer::At(footer) = found else {
+    let Some(footer) = ape::find_footer(file) else {
         return cut_audio(file, file.len());
     };
-    let s = frame::ape_tag_start(file, footer);
-    let TagStart::At(start) = s else {
+    let Some(start) = frame::ape_tag_start(file, footer) else {
         return cut_audio(file, file.len());
     };
     let rest = footer + 32;
@@ -70,16 +65,14 @@ pub fn cut_ape_tag(file: &[u8]) -> Cut
     ensures { result ≡ tag_cut file.now }
 {
     let n = file.len();
-    let found = ape::find_footer(file);
-    let Footer::At(footer) = found else {
+    let Some(footer) = ape::find_footer(file) else {
         return Cut {
             front: n,
             from: n,
             to: n,
         };
     };
-    let s = frame::ape_tag_start(file, footer);
-    let TagStart::At(before) = s else {
+    let Some(before) = frame::ape_tag_start(file, footer) else {
         return Cut {
             front: n,
             from: n,
@@ -127,7 +120,12 @@ pub fn put_file(file: &[u8], cut: Cut, area: &[u8], count: usize, out: &mut [u8]
 }
 
 // The file with its tag replaced by the items of a well-formed area, where there is room for it: refusal 5.
-pub fn replace_items(file: &[u8], area: &[u8], count: usize, out: &mut [u8]) -> Written
+pub fn replace_items(
+    file: &[u8],
+    area: &[u8],
+    count: usize,
+    out: &mut [u8],
+) -> Result<usize, Refusal>
     requires { (length file.now ≤ 16777216) × (is_some (parse count area.now) ≡ true) }
     ensures { let plan = room_plan file.now (items_in count area.now) (length out.old) in
         (result ≡ written_answer plan) × (out.new ≡ over (written_bytes plan) out.old) }
@@ -135,24 +133,29 @@ pub fn replace_items(file: &[u8], area: &[u8], count: usize, out: &mut [u8]) -> 
     let cut = split_ape_tag(file);
     let n = file_length(cut, ape_write::tag_length(area.len(), count));
     if out.len() < n {
-        return Written::Refused(Refusal::NoRoom);
+        return Err(Refusal::NoRoom);
     }
     if replies::FILE_LIMIT < n {
-        return Written::Refused(Refusal::NoRoom);
+        return Err(Refusal::NoRoom);
     }
-    Written::Done(put_file(file, cut, area, count, out))
+    Ok(put_file(file, cut, area, count, out))
 }
 
 // The file with its tag replaced by the items of the area: refusals 1, 12 and 5.
-pub fn replace_ape_tag(file: &[u8], area: &[u8], count: usize, out: &mut [u8]) -> Written
+pub fn replace_ape_tag(
+    file: &[u8],
+    area: &[u8],
+    count: usize,
+    out: &mut [u8],
+) -> Result<usize, Refusal>
     ensures { let plan = replace_plan file.now area.now count (length out.old) in
         (result ≡ written_answer plan) × (out.new ≡ over (written_bytes plan) out.old) }
 {
     if replies::FILE_LIMIT < file.len() {
-        return Written::Refused(Refusal::FileTooLong);
+        return Err(Refusal::FileTooLong);
     }
     if !items::well_formed(area, count) {
-        return Written::Refused(Refusal::MalformedArea);
+        return Err(Refusal::MalformedArea);
     }
     replace_items(file, area, count, out)
 }

@@ -1,27 +1,19 @@
 // Replays the published Rust's recorded answers for crates ape, ape_write and ape_replace.
 #![tactic(auto)]
 
-use ape::{FooterFound, TagRead};
-use ape_write::Written;
+use replies::Refusal;
 use std::io;
-use vectors::Replay;
-use words::is_hex;
 
 // `footer FILE PLACE`: where the footer stands, or `none`.
 fn footer(text: &[u8], at: usize) -> bool {
     let mut file = [0u8; 2048];
     let n = words::hex_bytes(text, at, &mut file);
     let place = words::next_word(text, at);
-    let f = ape::find_ape_footer(&file[0..n]);
-    match f {
-        FooterFound::At(found) => {
-            if lists::starts_with(text, place, b"none") {
-                return false;
-            }
-            found as u64 == words::unsigned(text, place)
-        }
-        FooterFound::Nowhere => lists::starts_with(text, place, b"none"),
-        FooterFound::Refused(_) => false,
+    let none = lists::starts_with(text, place, b"none");
+    match ape::find_ape_footer(&file[..n]) {
+        Ok(Some(found)) => !none && found as u64 == words::unsigned(text, place),
+        Ok(None) => none,
+        Err(_) => false,
     }
 }
 
@@ -31,35 +23,25 @@ fn read(text: &[u8], at: usize) -> bool {
     let n = words::hex_bytes(text, at, &mut file);
     let count_at = words::next_word(text, at);
     let area_at = words::next_word(text, count_at);
+    let none = lists::starts_with(text, count_at, b"none");
     let mut area = [0u8; 8192];
-    let t = ape::read_ape_tag(&file[0..n], &mut area);
-    match t {
-        TagRead::NoTag => lists::starts_with(text, count_at, b"none"),
-        TagRead::Items { count, length } => {
-            if lists::starts_with(text, count_at, b"none") {
-                return false;
-            }
-            if count as u64 != words::unsigned(text, count_at) {
-                return false;
-            }
-            if 8192 < length {
-                return false;
-            }
-            is_hex(text, area_at, &area[0..length])
+    match ape::read_ape_tag(&file[..n], &mut area) {
+        Ok(Some(size)) => {
+            !none
+                && size.count as u64 == words::unsigned(text, count_at)
+                && words::is_front(text, area_at, &area, size.length)
         }
-        TagRead::Refused(_) => false,
+        Ok(None) => none,
+        Err(_) => false,
     }
 }
 
 // Whether a call wrote the bytes of the word at this place.
-fn wrote(text: &[u8], at: usize, w: Written, out: &[u8]) -> bool {
-    let Written::Done(n) = w else {
-        return false;
-    };
-    if out.len() < n {
-        return false;
+fn wrote(text: &[u8], at: usize, w: Result<usize, Refusal>, out: &[u8]) -> bool {
+    match w {
+        Ok(n) => words::is_front(text, at, out, n),
+        Err(_) => false,
     }
-    is_hex(text, at, &out[0..n])
 }
 
 // `replace FILE COUNT AREA FILE`.
@@ -72,7 +54,7 @@ fn replace(text: &[u8], at: usize) -> bool {
     let m = words::hex_bytes(text, area_at, &mut area);
     let count = words::unsigned(text, count_at) as usize;
     let mut out = [0u8; 8192];
-    let w = ape_replace::replace_ape_tag(&file[0..n], &area[0..m], count, &mut out);
+    let w = ape_replace::replace_ape_tag(&file[..n], &area[..m], count, &mut out);
     wrote(text, words::next_word(text, area_at), w, &out)
 }
 
@@ -83,7 +65,7 @@ fn serialize(text: &[u8], at: usize) -> bool {
     let m = words::hex_bytes(text, area_at, &mut area);
     let count = words::unsigned(text, at) as usize;
     let mut out = [0u8; 8192];
-    let w = ape_write::serialize_ape_tag(&area[0..m], count, &mut out);
+    let w = ape_write::serialize_ape_tag(&area[..m], count, &mut out);
     wrote(text, words::next_word(text, area_at), w, &out)
 }
 
@@ -93,50 +75,37 @@ fn split(text: &[u8], at: usize) -> bool {
     let n = words::hex_bytes(text, at, &mut file);
     let front = words::next_word(text, at);
     let from = words::next_word(text, front);
-    let cut = ape_replace::split_ape_tag(&file[0..n]);
+    let cut = ape_replace::split_ape_tag(&file[..n]);
     if cut.front as u64 != words::unsigned(text, front) {
-        return false;
+        false
+    } else if lists::starts_with(text, from, b"none") {
+        cut.from == cut.to
+    } else {
+        cut.from as u64 == words::unsigned(text, from)
+            && cut.to as u64 == words::unsigned(text, words::next_word(text, from))
     }
-    if lists::starts_with(text, from, b"none") {
-        return cut.from == cut.to;
-    }
-    if cut.from as u64 != words::unsigned(text, from) {
-        return false;
-    }
-    cut.to as u64 == words::unsigned(text, words::next_word(text, from))
 }
 
 // Whether the answer in the line at this place is the library's.
 fn agrees(text: &[u8], at: usize) -> bool {
     let from = words::next_word(text, at);
     if lists::starts_with(text, at, b"footer ") {
-        return footer(text, from);
+        footer(text, from)
+    } else if lists::starts_with(text, at, b"read ") {
+        read(text, from)
+    } else if lists::starts_with(text, at, b"replace ") {
+        replace(text, from)
+    } else if lists::starts_with(text, at, b"serialize ") {
+        serialize(text, from)
+    } else if lists::starts_with(text, at, b"split ") {
+        split(text, from)
+    } else {
+        false
     }
-    if lists::starts_with(text, at, b"read ") {
-        return read(text, from);
-    }
-    if lists::starts_with(text, at, b"replace ") {
-        return replace(text, from);
-    }
-    if lists::starts_with(text, at, b"serialize ") {
-        return serialize(text, from);
-    }
-    if lists::starts_with(text, at, b"split ") {
-        return split(text, from);
-    }
-    false
-}
-
-fn replay(text: &[u8]) -> Replay {
-    let mut r = vectors::start(text);
-    while r.at < text.len() {
-        r = vectors::counted(text, r, agrees(text, r.at));
-    }
-    r
 }
 
 fn main(rt: HostRuntime) -> io::Result<()> {
     let mut text = vectors::buffer();
     let n = input::read_full(&rt, &mut text)?;
-    vectors::report(&rt, b"ape", replay(&text[..n]))
+    vectors::report(&rt, b"ape", vectors::replay_all(&text[..n], agrees))
 }

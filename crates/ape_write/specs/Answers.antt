@@ -1,13 +1,13 @@
 -- What the call answers and writes that makes a tag.
+use Rattle.std.specs.Prelude.{Result, Ok, Err}
 use Rattle.std.specs.Prelude.{ℕ, ◌+◌, cond, List, [], ◌∷◌, ◌++◌, length, eqb}
 use Rattle.lists.specs.Choice.{is_some}
 use Rattle.replies.specs.Refusal.{Test, need, refusal_of, Plan, no, yes, planned}
+use Rattle.replies.specs.declared.Refusal.{Refusal}
 use Rattle.replies.specs.declared.Refusal.TheVariants.{MalformedArea}
 use Rattle.items.specs.Items.{parse, items_in}
 use Rattle.ape.specs.Tag.{block_bytes, header_flags, footer_flags, serialize}
 use Rattle.ape.specs.Answers.{room_for}
-use Rattle.ape_write.specs.declared.Written.{Written}
-use Rattle.ape_write.specs.declared.Written.TheVariants.{Done, Refused}
 
 -- refusal 12: the area is exactly so many items
 abbrev pub area_fits : ℕ → List ℕ → Test
@@ -24,9 +24,9 @@ abbrev pub tag_length : ℕ → ℕ → ℕ
 tag_length n count = cond (eqb count 0) 0 (n + 64)
 
 -- the length of what is written, or the refusal
-abbrev pub written_answer : Plan (List ℕ) → Written
-written_answer (no r) = Refused r
-written_answer (yes w) = Done (length w)
+abbrev pub written_answer : Plan (List ℕ) → Result ℕ Refusal
+written_answer (no r) = Err r
+written_answer (yes w) = Ok (length w)
 
 -- what is written: nothing when refused
 abbrev pub written_bytes : Plan (List ℕ) → List ℕ

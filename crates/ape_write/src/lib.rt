@@ -10,19 +10,10 @@ ghost use Rattle.ape_write.specs.Answers.{tag_parts, tag_length, serialize_plan,
 
 use replies::Refusal;
 
-const APE_VERSION: u32 = 2000;
-
 // The flags of a header and of a footer: bit 31, the tag has a header; bit 29, this is it.
 pub const HEADER_FLAGS: u32 = 0xA000_0000;
 
 pub const FOOTER_FLAGS: u32 = 0x8000_0000;
-
-// How many bytes were written, or why none was.
-#[derive(Clone, Copy)]
-pub enum Written {
-    Done(usize),
-    Refused(Refusal),
-}
 
 // Writes the 32 bytes of a header or a footer to the front of `out`.
 pub fn put_block(out: &mut [u8], size: u32, count: u32, flags: u32)
@@ -30,7 +21,7 @@ pub fn put_block(out: &mut [u8], size: u32, count: u32, flags: u32)
     ensures { out.new ≡ over (block_bytes size count flags) out.old }
 {
     let a = lists::put(out, 0, &frame::APE_PREAMBLE);
-    let b = lists::put_u32_le(out, a, APE_VERSION);
+    let b = lists::put_u32_le(out, a, ape::APE_VERSION);
     let c = lists::put_u32_le(out, b, size);
     let d = lists::put_u32_le(out, c, count);
     let e = lists::put_u32_le(out, d, flags);
@@ -76,19 +67,19 @@ pub fn put_tag(out: &mut [u8], area: &[u8], count: usize) -> usize
 }
 
 // The tag of the items of an area, in bytes: refusals 12 and 5.
-pub fn serialize_ape_tag(area: &[u8], count: usize, out: &mut [u8]) -> Written
+pub fn serialize_ape_tag(area: &[u8], count: usize, out: &mut [u8]) -> Result<usize, Refusal>
     ensures { let plan = serialize_plan area.now count (length out.old) in
         (result ≡ written_answer plan) × (out.new ≡ over (written_bytes plan) out.old) }
 {
     if !items::well_formed(area, count) {
-        return Written::Refused(Refusal::MalformedArea);
+        return Err(Refusal::MalformedArea);
     }
     let n = tag_length(area.len(), count);
     if out.len() < n {
-        return Written::Refused(Refusal::NoRoom);
+        return Err(Refusal::NoRoom);
     }
     if replies::FILE_LIMIT < n {
-        return Written::Refused(Refusal::NoRoom);
+        return Err(Refusal::NoRoom);
     }
-    Written::Done(put_tag(out, area, count))
+    Ok(put_tag(out, area, count))
 }

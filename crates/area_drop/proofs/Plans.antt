@@ -1,9 +1,8 @@
 -- What an edit that drops items answers, by the tests that led there.
 use Prim.Native.Nat.{ℕ}
-use native.Mathlib.Omega.{arith}
-use mathlib.Core.Path.{◌≡◌, refl, ◌∙◌}
+use mathlib.Core.Path.{◌≡◌, refl, sym, ap, ◌∙◌}
 use mathlib.Core.Bool.{true, false}
-use mathlib.Core.Option.{Option, none, some}
+use Rattle.std.specs.Prelude.{Option, None, Some}
 use mathlib.Core.List.{List, []}
 use lib.ListN.{length}
 use Rattle.lists.specs.Choice.{is_some}
@@ -13,7 +12,8 @@ use Rattle.keys.specs.Keys.{same_key, is_key}
 use Rattle.items.specs.Items.{Item, area_bytes, parse, items_in}
 use Rattle.area_edit.specs.Edits.{fits, edited}
 use Rattle.area_drop.specs.Drops.{measured_of, remove_plan, drop_plan}
-use Rattle.area_drop.specs.declared.Measured.TheVariants.{Size, Malformed}
+use Rattle.items.specs.declared.Size.{Size}
+use Rattle.std.proofs.lemmas.Option.{none-some, same_Some}
 
 -- ---- by the tests of each call
 
@@ -48,24 +48,24 @@ module _ (n : ℕ) (s : List ℕ) (room : ℕ) where
 
 -- ---- what a measure says of the area
 
-pub record Sized (f : List Item → List Item) (n : ℕ) (s : List ℕ) (c l : ℕ) : Type 0 where
+pub record Sized (f : List Item → List Item) (n : ℕ) (s : List ℕ) (z : Size) : Type 0 where
   pub some : is_some (parse n s) ≡ true
-  pub count : c ≡ length (f (items_in n s))
-  pub length : l ≡ length (area_bytes (f (items_in n s)))
+  pub count : z.count ≡ length (f (items_in n s))
+  pub length : z.length ≡ length (area_bytes (f (items_in n s)))
 
 module _ (f : List Item → List Item) (n : ℕ) (s : List ℕ) where
-  pub sized : (c l : ℕ) → Size c l ≡ measured_of f n s → Sized f n s c l
-  sized c l e = go (parse n s) refl
+  pub sized : (z : Size) → Some z ≡ measured_of f n s → Sized f n s z
+  sized z e = go (parse n s) refl
     where
-      go : (o : Option (List Item)) → parse n s ≡ o → Sized f n s c l
-      go none q = absurd (let y : Size c l ≡ Malformed = e ∙ rw q in let z : ◌≡◌ {A = ℕ} 0 1 = cc in omega arith)
-      go (some ts) q =
-          let y : Size c l ≡ Size (length (f ts)) (length (area_bytes (f ts))) = e ∙ rw q in
-          record { some = rw q; count = rw q (let z : c ≡ length (f ts) = cc in z); length = rw q (let z : l ≡ length (area_bytes (f ts)) = cc in z) }
+      go : (o : Option (List Item)) → parse n s ≡ o → Sized f n s z
+      go None q = absurd (none-some z (sym (e ∙ rw q)))
+      go (Some ts) q =
+          let y : z ≡ record { count = length (f ts); length = length (area_bytes (f ts)) } = same_Some _ _ (e ∙ rw q) in
+          record { some = rw q; count = rw q (ap (λ x. x.count) y); length = rw q (ap (λ x. x.length) y) }
 
-  pub unsized : Malformed ≡ measured_of f n s → is_some (parse n s) ≡ false
+  pub unsized : None ≡ measured_of f n s → is_some (parse n s) ≡ false
   unsized e = go (parse n s) refl
     where
       go : (o : Option (List Item)) → parse n s ≡ o → is_some (parse n s) ≡ false
-      go none q = rw q
-      go (some ts) q = absurd (let y : Malformed ≡ Size (length (f ts)) (length (area_bytes (f ts))) = e ∙ rw q in let z : ◌≡◌ {A = ℕ} 0 1 = cc in omega arith)
+      go None q = rw q
+      go (Some ts) q = absurd (none-some (record { count = length (f ts); length = length (area_bytes (f ts)) }) (e ∙ rw q))

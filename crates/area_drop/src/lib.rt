@@ -1,109 +1,81 @@
 // Edits of a lent item area that drop items: those that stay are written to the front of a lent output.
 #![tactic(auto)]
 
-ghost use Rattle.std.specs.Prelude.{◌≡◌, true, ◌≤◌, length};
+ghost use Rattle.std.specs.Prelude.{◌≡◌, ℕ, Bool, List, true, ◌≤◌, length};
+ghost use Rattle.std.specs.Fn.{FnReturnsAt};
 ghost use Rattle.lists.specs.Choice.{is_some};
 ghost use Rattle.lists.specs.Write.{over};
 ghost use Rattle.keys.specs.Keys.{is_mp3gain_key, is_undone, is_replay_gain};
 ghost use Rattle.items.specs.Items.{area_bytes, parse, items_in, without};
 ghost use Rattle.area_edit.specs.Edits.{answer, bytes};
-ghost use Rattle.area_drop.specs.Drops.{dropped, measured_of, remove_plan, drop_plan};
+ghost use Rattle.area_drop.specs.Drops.{Tests, measured_of, remove_plan, drop_plan};
 
-use area_edit::Edited;
-use items::Stepped;
+use items::{Size, Stepped};
 use replies::Refusal;
 
-// Which items go: those with a key that is lent beside it, or those with some of the eight keys.
-#[derive(Clone, Copy)]
-pub enum Drop {
-    Key,
-    Undone,
-    ReplayGain,
-    Mp3gain,
-}
-
-// How many items an edit makes, and how many bytes they have.
-#[derive(Clone, Copy)]
-pub enum Measured {
-    Size { count: usize, length: usize },
-    Malformed,
-}
-
-// Whether an item with this key goes.
-pub fn drops(what: Drop, key: &[u8], other: &[u8]) -> bool
-    ensures { result ≡ dropped what key.now other.now }
-{
-    match what {
-        Drop::Key => keys::same_key(key, other),
-        Drop::Undone => keys::is_undone(other),
-        Drop::ReplayGain => keys::is_replaygain(other),
-        Drop::Mp3gain => keys::is_mp3gain(other),
-    }
-}
-
-// What is left of an area without the items that go, in one pass that also tests the area.
-pub fn measure_without(area: &[u8], count: usize, what: Drop, key: &[u8]) -> Measured
-    ensures { result ≡ measured_of (without (dropped what key.now)) count area.now }
+// What is left of an area without the items whose keys pass the test, in one pass that also tests the area.
+pub fn measure_without<F: Fn(&[u8]) -> bool>(area: &[u8], count: usize, goes: F) -> Option<Size>
+    requires { F.IsAlwaysCallable goes }
+    ensures { (p : List ℕ → Bool) → Tests (FnReturnsAt F.Fn goes) p → result ≡ measured_of (without p) count area.now }
 {
     if count > area.len() / 9 {
-        return Measured::Malformed;
+        return None;
     }
     let mut at = 0;
-    let mut left = count;
     let mut n = 0;
     let mut size = 0;
-    while 0 < left {
-        let s = items::step(area, at);
+    for _ in 0..count {
         let Stepped::Item {
-            flags: _,
             key_start,
             key_end,
-            value_start: _,
             value_end,
-        } = s
+            ..
+        } = items::step(area, at)
         else {
-            return Measured::Malformed;
+            return None;
         };
-        left -= 1;
-        if !drops(what, key, &area[key_start..key_end]) {
+        if !goes(&area[key_start..key_end]) {
             n += 1;
             size += value_end - at;
         }
         at = value_end;
     }
-    if at != area.len() {
-        return Measured::Malformed;
-    }
-    Measured::Size {
-        count: n,
-        length: size,
+    if at == area.len() {
+        Some(Size {
+            count: n,
+            length: size,
+        })
+    } else {
+        None
     }
 }
 
-// Writes the items of a well-formed area that stay to the front of `out`.
-pub fn write_without(area: &[u8], count: usize, what: Drop, key: &[u8], out: &mut [u8]) -> usize
-    requires { (is_some (parse count area.now) ≡ true)
-        × (length (area_bytes (without (dropped what key.now) (items_in count area.now))) ≤ length out.old) }
-    ensures { let new = area_bytes (without (dropped what key.now) (items_in count area.now)) in
+// Writes the items of a well-formed area whose keys do not pass the test to the front of `out`.
+pub fn write_without<F: Fn(&[u8]) -> bool>(
+    area: &[u8],
+    count: usize,
+    goes: F,
+    out: &mut [u8],
+) -> usize
+    requires callable { F.IsAlwaysCallable goes }
+    requires formed { is_some (parse count area.now) ≡ true }
+    requires room { (p : List ℕ → Bool) × Tests (FnReturnsAt F.Fn goes) p × (length (area_bytes (without p (items_in count area.now))) ≤ length out.old) }
+    ensures { (p : List ℕ → Bool) → Tests (FnReturnsAt F.Fn goes) p → let new = area_bytes (without p (items_in count area.now)) in
         (result ≡ length new) × (out.new ≡ over new out.old) }
 {
     let mut at = 0;
-    let mut left = count;
     let mut o = 0;
-    while 0 < left {
-        let s = items::step(area, at);
+    for _ in 0..count {
         let Stepped::Item {
-            flags: _,
             key_start,
             key_end,
-            value_start: _,
             value_end,
-        } = s
+            ..
+        } = items::step(area, at)
         else {
             return o;
         };
-        left -= 1;
-        if !drops(what, key, &area[key_start..key_end]) {
+        if !goes(&area[key_start..key_end]) {
             o = lists::put_part(out, o, area, at, value_end);
         }
         at = value_end;
@@ -111,66 +83,62 @@ pub fn write_without(area: &[u8], count: usize, what: Drop, key: &[u8], out: &mu
     o
 }
 
-// The area without the items that go.
-fn edit_without(area: &[u8], count: usize, what: Drop, key: &[u8], out: &mut [u8]) -> Edited
-    ensures { let plan = drop_plan (dropped what key.now) count area.now (length out.old) in
+// The area without the items whose keys pass the test.
+fn edit_without<F: Fn(&[u8]) -> bool + Copy>(
+    area: &[u8],
+    count: usize,
+    goes: F,
+    out: &mut [u8],
+) -> Result<Size, Refusal>
+    requires callable { F.IsAlwaysCallable goes }
+    requires tests { (p : List ℕ → Bool) × Tests (FnReturnsAt F.Fn goes) p }
+    ensures { (p : List ℕ → Bool) → Tests (FnReturnsAt F.Fn goes) p → let plan = drop_plan p count area.now (length out.old) in
         (result ≡ answer plan) × (out.new ≡ over (bytes plan) out.old) }
 {
-    let m = measure_without(area, count, what, key);
-    let Measured::Size {
-        count: n,
-        length: size,
-    } = m
-    else {
-        return Edited::Refused(Refusal::MalformedArea);
+    let Some(size) = measure_without(area, count, goes) else {
+        return Err(Refusal::MalformedArea);
     };
-    if out.len() < size {
-        return Edited::Refused(Refusal::NoRoom);
+    if out.len() < size.length || size.length > replies::FILE_LIMIT {
+        return Err(Refusal::NoRoom);
     }
-    if size > replies::FILE_LIMIT {
-        return Edited::Refused(Refusal::NoRoom);
-    }
-    let end = write_without(area, count, what, key, out);
-    Edited::Done {
-        count: n,
-        length: end,
-    }
+    write_without(area, count, goes, out);
+    Ok(size)
 }
 
 // The area without the items that have this key, however many they are.
-pub fn remove(area: &[u8], count: usize, key: &[u8], out: &mut [u8]) -> Edited
+pub fn remove(area: &[u8], count: usize, key: &[u8], out: &mut [u8]) -> Result<Size, Refusal>
     ensures { let plan = remove_plan key.now count area.now (length out.old) in
         (result ≡ answer plan) × (out.new ≡ over (bytes plan) out.old) }
 {
     if keys::is_key(key) {
-        return edit_without(area, count, Drop::Key, key, out);
+        edit_without(area, count, |other| keys::same_key(key, other), out)
+    } else if items::well_formed(area, count) {
+        Err(Refusal::BadKey)
+    } else {
+        Err(Refusal::MalformedArea)
     }
-    if !items::well_formed(area, count) {
-        return Edited::Refused(Refusal::MalformedArea);
-    }
-    Edited::Refused(Refusal::BadKey)
 }
 
 // The area without REPLAYGAIN_KEYS.
-pub fn remove_replaygain(area: &[u8], count: usize, out: &mut [u8]) -> Edited
+pub fn remove_replaygain(area: &[u8], count: usize, out: &mut [u8]) -> Result<Size, Refusal>
     ensures { let plan = drop_plan is_replay_gain count area.now (length out.old) in
         (result ≡ answer plan) × (out.new ≡ over (bytes plan) out.old) }
 {
-    edit_without(area, count, Drop::ReplayGain, b"", out)
+    edit_without(area, count, keys::is_replaygain, out)
 }
 
 // The area without UNDONE_KEYS.
-pub fn drop_undone(area: &[u8], count: usize, out: &mut [u8]) -> Edited
+pub fn drop_undone(area: &[u8], count: usize, out: &mut [u8]) -> Result<Size, Refusal>
     ensures { let plan = drop_plan is_undone count area.now (length out.old) in
         (result ≡ answer plan) × (out.new ≡ over (bytes plan) out.old) }
 {
-    edit_without(area, count, Drop::Undone, b"", out)
+    edit_without(area, count, keys::is_undone, out)
 }
 
 // The area without the eight keys.
-pub fn take_mp3gain(area: &[u8], count: usize, out: &mut [u8]) -> Edited
+pub fn take_mp3gain(area: &[u8], count: usize, out: &mut [u8]) -> Result<Size, Refusal>
     ensures { let plan = drop_plan is_mp3gain_key count area.now (length out.old) in
         (result ≡ answer plan) × (out.new ≡ over (bytes plan) out.old) }
 {
-    edit_without(area, count, Drop::Mp3gain, b"", out)
+    edit_without(area, count, keys::is_mp3gain, out)
 }

@@ -3,7 +3,7 @@ use Prim.Native.Nat.{ℕ, ◌-◌, ◌≤◌}
 use native.Mathlib.Omega.{arith}
 use mathlib.Core.Path.{◌≡◌, refl, sym, ap, ◌∙◌}
 use mathlib.Core.Bool.{Bool, true, false, and-eq-true_iff}
-use mathlib.Core.Option.{some}
+use Rattle.std.specs.Prelude.{Some, Ok}
 use mathlib.Core.List.{List}
 use lib.ListN.{length, take}
 use lib.Seq.{take_at}
@@ -21,25 +21,27 @@ use Rattle.items.specs.Items.{Item, area_bytes, parse, items_in, set_item}
 use Rattle.items.proofs.Area.{AllSane, parse-area}
 use Rattle.items.proofs.ItemLaws.{sane-set, sane-key, parse-sane}
 use Rattle.area_edit.specs.Edits.{fits, answer, bytes, set_plan}
-use Rattle.area_edit.specs.declared.Edited.TheVariants.{Done}
+use Rattle.items.specs.declared.Size.{Size}
 use Rattle.area_edit.proofs.Plans.{set-12, set-3, set-4, set-5, set-yes}
 
 -- ---- an answer says what the plan is
 
-pub record Did (p : Plan (List Item)) (c l : ℕ) : Type 0 where
+pub record Did (p : Plan (List Item)) (z : Size) : Type 0 where
   pub items : List Item
   pub is : p ≡ yes items
-  pub count : c ≡ length items
-  pub size : l ≡ length (area_bytes items)
+  pub count : z.count ≡ length items
+  pub size : z.length ≡ length (area_bytes items)
 
-pub did : (p : Plan (List Item)) (c l : ℕ) → Done c l ≡ answer p → Did p c l
-did (no r) c l e = absurd (let z : ◌≡◌ {A = ℕ} 0 1 = cc in omega arith)
-did (yes ts) c l e = record { items = ts; is = refl; count = cc; size = cc }
+pub did : (p : Plan (List Item)) (z : Size) → Ok z ≡ answer p → Did p z
+did (no r) z e = absurd (cc)
+did (yes ts) z e =
+    let q : z ≡ record { count = length ts; length = length (area_bytes ts) } = cc in
+    record { items = ts; is = refl; count = ap (λ x. x.count) q; size = ap (λ x. x.length) q }
 
 -- what stands in the output up to the length answered
-pub written : {p : Plan (List Item)} {c l : ℕ} (d : Did p c l) (out xs : List ℕ) → xs ≡ over (bytes p) out → take (l - 0) xs ≡ area_bytes d.items
-written {p} {c} {l} d out xs e =
-    ap (take (l - 0)) (e ∙ ap (λ q. over (bytes q) out) d.is) ∙ take_at (area_bytes d.items) _ (l - 0) (omega (arith, d.size))
+pub written : {p : Plan (List Item)} {z : Size} (d : Did p z) (out xs : List ℕ) → xs ≡ over (bytes p) out → take (z.length - 0) xs ≡ area_bytes d.items
+written {p} {z} d out xs e =
+    ap (take (z.length - 0)) (e ∙ ap (λ q. over (bytes q) out) d.is) ∙ take_at (area_bytes d.items) _ (z.length - 0) (omega (arith, d.size))
 
 -- ---- the new items
 
@@ -50,7 +52,7 @@ pub record Fine (room : ℕ) (ts : List Item) : Type 0 where
   pub small : length (area_bytes ts) ≤ file_limit
 
 -- they are read back
-pub again : {room : ℕ} {ts : List Item} (f : Fine room ts) → parse (length ts) (area_bytes ts) ≡ some ts
+pub again : {room : ℕ} {ts : List Item} (f : Fine room ts) → parse (length ts) (area_bytes ts) ≡ Some ts
 again {room} {ts} f = parse-area ts f.sane (omega (arith, f.small))
 
 pub fitted : (room : ℕ) (ts : List Item) → AllSane ts → fits room ts ≡ true → Fine room ts

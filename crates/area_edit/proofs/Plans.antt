@@ -2,6 +2,7 @@
 use Prim.Native.Nat.{ℕ, ◌≤◌, ◌<◌}
 use mathlib.Core.Path.{◌≡◌, sym, ap, ◌∙◌}
 use mathlib.Core.Bool.{true, false}
+use Rattle.std.specs.Prelude.{Ok, Err}
 use mathlib.Core.List.{List}
 use lib.ListN.{length}
 use lib.Dec.{leb}
@@ -17,7 +18,7 @@ use Rattle.utf8.specs.Utf8.{valid}
 use Rattle.keys.specs.Keys.{is_key}
 use Rattle.items.specs.Items.{Item, area_bytes, parse, items_in, set_item}
 use Rattle.area_edit.specs.Edits.{fits, edited, answer, bytes, set_plan}
-use Rattle.area_edit.specs.declared.Edited.TheVariants.{Done, Refused}
+use Rattle.items.specs.declared.Size.{Size}
 
 -- ---- the room
 
@@ -57,12 +58,9 @@ module _ (n : ℕ) (s : List ℕ) (room : ℕ) where
 
 -- ---- what a function ensures that refuses, and one that is done
 
-pub refused : {p : Plan (List Item)} {r : Refusal} (out : List ℕ) → p ≡ no r → (Refused r ≡ answer p) × (out ≡ over (bytes p) out)
+pub refused : {p : Plan (List Item)} {r : Refusal} (out : List ℕ) → p ≡ no r → (Err r ≡ answer p) × (out ≡ over (bytes p) out)
 refused out e = (ap answer (sym e), ap (λ p. over (bytes p) out) (sym e))
 
-pub finished : {p : Plan (List Item)} {ts : List Item} {c l : ℕ} (out : List ℕ) {out' : List ℕ} → p ≡ yes ts → c ≡ length ts → l ≡ length (area_bytes ts) → out' ≡ over (area_bytes ts) out
-    → (Done c l ≡ answer p) × (out' ≡ over (bytes p) out)
-finished {p} {ts} {c} {l} out {out'} e n m o = (
-  (let a : answer (yes ts) ≡ answer p = ap answer (sym e) in (cc)),
-  o ∙ ap (λ p. over (bytes p) out) (sym e),
-)
+pub finished : {p : Plan (List Item)} {ts : List Item} {z : Size} (out : List ℕ) {out' : List ℕ} → p ≡ yes ts → z.count ≡ length ts → z.length ≡ length (area_bytes ts) → out' ≡ over (area_bytes ts) out
+    → (Ok z ≡ answer p) × (out' ≡ over (bytes p) out)
+finished {p} {ts} {z} out {out'} e n m o = (rw (e, ← n, ← m), o ∙ ap (λ p. over (bytes p) out) (sym e))

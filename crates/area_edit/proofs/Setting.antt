@@ -2,25 +2,23 @@
 use Prim.Native.Nat.{ℕ, ◌+◌, ◌-◌, ◌*◌, ◌≤◌}
 use native.Mathlib.Omega.{arith}
 use mathlib.Core.Path.{◌≡◌, refl, sym, ap, ◌∙◌}
-use mathlib.Core.Bool.{true, false, true≢false}
+use Rattle.std.specs.Prelude.{None, Some, Ok}
 use mathlib.Core.List.{List, [], ◌∷◌, ◌++◌, append_assoc, append-nil}
 use lib.ListN.{length, drop, length-append}
 use lib.Seq.{drop_at}
 use Rattle.lists.specs.Bytes.{Small}
-use Rattle.lists.specs.Choice.{is_some}
 use Rattle.lists.specs.Le.{u32le, read_u32}
 use Rattle.lists.specs.Write.{part}
 use Rattle.lists.proofs.Places.{part-is}
 use Rattle.lists.proofs.Numbers.{read-drop}
-use Rattle.items.specs.Items.{Item, item_bytes, area_bytes, as_text, parse, items_in, set_item, with_value, new_item}
+use Rattle.items.specs.Items.{Item, item_bytes, area_bytes, as_text, items_in, set_item, with_value, new_item}
 use Rattle.items.specs.Answers.{locate_of}
 use Rattle.items.specs.declared.Place.{Place}
-use Rattle.items.specs.declared.Place.TheVariants.{At, Nowhere, Malformed}
 use Rattle.items.proofs.Area.{length-item, area-length, area-items, count-items, parse-fits}
-use Rattle.items.proofs.Located.{located, unlocated, at-not, nowhere-not}
+use Rattle.items.proofs.Located.{located}
 use Rattle.items.proofs.Places.{Split, split, around, length-around, set-bytes, set-length, set-count, Absent, absent, append-bytes, append-length, append-count}
 use Rattle.items.proofs.Finding.{There, there}
-use Rattle.area_edit.specs.Edits.{is_malformed, changed, fresh, replaced, appended}
+use Rattle.area_edit.specs.Edits.{changed, fresh, replaced, appended}
 
 -- what is kept of the flags of an item that stands at the front
 kept-flags : (n g : ℕ) (r : List ℕ) → as_text (read_u32 (u32le n ++ (u32le g ++ r)) 4) ≡ as_text g
@@ -69,11 +67,11 @@ module _ {key : List ℕ} {ts : List Item} (x : Absent key ts) (value : List ℕ
 
 -- ---- what set does to an area, by where the key stands
 
-pub record Replaces (s : List ℕ) (n : ℕ) (key value : List ℕ) (a k e : ℕ) : Type 0 where
-  pub there : There s a k e
+pub record Replaces (s : List ℕ) (n : ℕ) (key value : List ℕ) (p : Place) : Type 0 where
+  pub there : There s p
   pub count : n ≡ length (set_item key value (items_in n s))
-  pub size : k + 1 + length value + (length s - e) ≡ length (area_bytes (set_item key value (items_in n s)))
-  pub bytes : Small s → replaced s a k e value ≡ area_bytes (set_item key value (items_in n s))
+  pub size : p.key_end + 1 + length value + (length s - p.end) ≡ length (area_bytes (set_item key value (items_in n s)))
+  pub bytes : Small s → replaced s p.start p.key_end p.end value ≡ area_bytes (set_item key value (items_in n s))
 
 pub record Appends (s : List ℕ) (n : ℕ) (key value : List ℕ) : Type 0 where
   pub few : 9 * n ≤ length s
@@ -82,21 +80,21 @@ pub record Appends (s : List ℕ) (n : ℕ) (key value : List ℕ) : Type 0 wher
   pub bytes : Small s → appended s key value ≡ area_bytes (set_item key value (items_in n s))
 
 module _ (s : List ℕ) (n : ℕ) (key value : List ℕ) where
-  pub replaces : (a k e : ℕ) → At a k e ≡ locate_of s n key → Replaces s n key value a k e
-  replaces a k e q =
-      let l = located s n key (At a k e) q (at-not a k e) in
-      let x = split key 0 (items_in n s) a k e l.is in
+  pub replaces : (p : Place) → Ok (Some p) ≡ locate_of s n key → Replaces s n key value p
+  replaces p q =
+      let l = located s n key (Some p) q in
+      let x = split key 0 (items_in n s) p l.is in
       let y = area-length n s l.some in
       record {
-        there = there s n key a k e q;
+        there = there s n key p q;
         count = sym (set-count x value ∙ count-items n s l.some);
         size = omega (arith, set-length x value);
-        bytes = λ b. ap (λ (r : List ℕ). replaced r a k e value) (sym (area-items n s b l.some)) ∙ set-replaced x value;
+        bytes = λ b. ap (λ (r : List ℕ). replaced r p.start p.key_end p.end value) (sym (area-items n s b l.some)) ∙ set-replaced x value;
       }
 
-  pub appends : Nowhere ≡ locate_of s n key → Appends s n key value
+  pub appends : Ok None ≡ locate_of s n key → Appends s n key value
   appends q =
-      let l = located s n key Nowhere q nowhere-not in
+      let l = located s n key None q in
       let x = absent key 0 (items_in n s) l.is in
       let y = area-length n s l.some in
       record {
@@ -105,19 +103,3 @@ module _ (s : List ℕ) (n : ℕ) (key value : List ℕ) where
         size = omega (arith, append-length x value);
         bytes = λ b. ap (λ (r : List ℕ). appended r key value) (sym (area-items n s b l.some)) ∙ set-appended x value;
       }
-
--- a well-formed area is not found malformed
-pub never : (s : List ℕ) (n : ℕ) (key : List ℕ) → is_some (parse n s) ≡ true → Malformed ≡ locate_of s n key → ⊥
-never s n key e q = true≢false (sym e ∙ unlocated s n key q)
-
--- the search tests the area
-module _ (s : List ℕ) (n : ℕ) (key : List ℕ) where
-  pub bad-area : (p : Place) → p ≡ locate_of s n key → is_malformed p ≡ true → is_some (parse n s) ≡ false
-  bad-area (At a k e) q t = absurd (true≢false (sym t))
-  bad-area Nowhere q t = absurd (true≢false (sym t))
-  bad-area Malformed q t = unlocated s n key q
-
-  pub good-area : (p : Place) → p ≡ locate_of s n key → is_malformed p ≡ false → is_some (parse n s) ≡ true
-  good-area (At a k e) q t = (located s n key (At a k e) q (at-not a k e)).some
-  good-area Nowhere q t = (located s n key Nowhere q nowhere-not).some
-  good-area Malformed q t = absurd (true≢false t)

@@ -1,18 +1,16 @@
 -- Edits of a lent item area (document 01, "Editing and writing"): refused, or new items that are written to the front of the output.
-use Rattle.std.specs.Prelude.{ℕ, ◌+◌, Bool, true, false, ◌&&◌, List, [], ◌∷◌, ◌++◌, length, leb}
+use Rattle.std.specs.Prelude.{ℕ, ◌+◌, Bool, Result, Ok, Err, ◌&&◌, List, [], ◌∷◌, ◌++◌, length, leb}
 use Rattle.lists.specs.Choice.{is_some}
 use Rattle.lists.specs.Le.{u32le, read_u32}
 use Rattle.lists.specs.Write.{part}
 use Rattle.replies.specs.Limits.{file_limit}
 use Rattle.replies.specs.Refusal.{Test, need, refusal_of, Plan, no, yes, planned}
+use Rattle.replies.specs.declared.Refusal.{Refusal}
 use Rattle.replies.specs.declared.Refusal.TheVariants.{MalformedArea, BadKey, NotUtf8, NoRoom}
 use Rattle.utf8.specs.Utf8.{valid}
 use Rattle.keys.specs.Keys.{upper_all, is_key}
 use Rattle.items.specs.Items.{Item, area_bytes, as_text, parse, items_in, set_item}
-use Rattle.items.specs.declared.Place.{Place}
-use Rattle.items.specs.declared.Place.TheVariants.{At, Nowhere, Malformed}
-use Rattle.area_edit.specs.declared.Edited.{Edited}
-use Rattle.area_edit.specs.declared.Edited.TheVariants.{Done, Refused}
+use Rattle.items.specs.declared.Size.{Size}
 
 -- refusal 5: the area of the items fits into `room` bytes and into a file
 abbrev pub fits : ℕ → List Item → Bool
@@ -24,9 +22,9 @@ edited tests f n s room =
     planned (refusal_of (need MalformedArea (is_some (parse n s)) ∷ need NoRoom (fits room (f (items_in n s))) ∷ tests)) (f (items_in n s))
 
 -- the answer: the refusal, or how many items were written and how many bytes
-abbrev pub answer : Plan (List Item) → Edited
-answer (no r) = Refused r
-answer (yes ts) = Done (length ts) (length (area_bytes ts))
+abbrev pub answer : Plan (List Item) → Result Size Refusal
+answer (no r) = Err r
+answer (yes ts) = Ok (record { count = length ts; length = length (area_bytes ts) })
 
 -- what is written: nothing where it is refused
 abbrev pub bytes : Plan (List Item) → List ℕ
@@ -38,12 +36,6 @@ bytes (yes ts) = area_bytes ts
 -- refusals 12, 3, 4 and 5
 abbrev pub set_plan : List ℕ → List ℕ → ℕ → List ℕ → ℕ → Plan (List Item)
 set_plan key value n s room = edited (need BadKey (is_key key) ∷ need NotUtf8 (valid value) ∷ []) (set_item key value) n s room
-
--- the search found the area malformed
-abbrev pub is_malformed : Place → Bool
-is_malformed (At start stop end) = false
-is_malformed Nowhere = false
-is_malformed Malformed = true
 
 -- ---- the bytes that set writes
 

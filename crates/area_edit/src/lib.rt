@@ -1,67 +1,37 @@
 // What an edit of a lent item area answers, and set: the new area is written to the front of a lent output.
 #![tactic(auto)]
 
-ghost use Rattle.std.specs.Prelude.{◌≡◌, true, ◌≤◌, ◌<◌, ◌+◌, ◌-◌, length};
-ghost use Rattle.lists.specs.Choice.{is_some};
+ghost use Rattle.std.specs.Prelude.{◌≡◌, ◌≤◌, ◌<◌, ◌+◌, ◌-◌, length};
 ghost use Rattle.lists.specs.Write.{over, splice};
 ghost use Rattle.replies.specs.Limits.{file_limit};
-ghost use Rattle.items.specs.Items.{area_bytes, parse, items_in, set_item};
+ghost use Rattle.items.specs.Items.{area_bytes, items_in, set_item};
 ghost use Rattle.items.specs.Answers.{locate_of};
-ghost use Rattle.area_edit.specs.Edits.{answer, bytes, set_plan, is_malformed, changed, fresh, replaced, appended};
+ghost use Rattle.area_edit.specs.Edits.{answer, bytes, set_plan, changed, fresh, replaced, appended};
 
-use items::Place;
+use items::{Place, Size};
 use replies::Refusal;
 
-// How many items an edit of a well-formed area makes, and how many bytes they have.
-#[derive(Clone, Copy)]
-pub struct Measure {
-    pub count: usize,
-    pub length: usize,
-}
-
-// What an edit wrote.
-#[derive(Clone, Copy)]
-pub enum Edited {
-    Done { count: usize, length: usize },
-    Refused(Refusal),
-}
-
-// Whether the search found the area malformed.
-fn is_malformed(p: Place) -> bool
-    ensures { result ≡ is_malformed p }
-{
-    match p {
-        Place::At {
-            start: _,
-            key_end: _,
-            end: _,
-        } => false,
-        Place::Nowhere => false,
-        Place::Malformed => true,
-    }
-}
-
-// What set makes of a well-formed area, `p` being where the first item with the key stands.
-pub fn measure_set(area: &[u8], count: usize, key: &[u8], value: &[u8], p: Place) -> Measure
-    requires { (is_some (parse count area.now) ≡ true) × (p ≡ locate_of area.now count key.now) × (length key.now ≤ 255)
-        × (length value.now ≤ file_limit) }
+// What set makes of a well-formed area, `place` being where the first item with the key stands.
+pub fn measure_set(
+    area: &[u8],
+    count: usize,
+    key: &[u8],
+    value: &[u8],
+    place: Option<Place>,
+) -> Size
+    requires { (Ok place ≡ locate_of area.now count key.now) × (length key.now ≤ 255) × (length value.now ≤ file_limit) }
     ensures { let ts = set_item key.now value.now (items_in count area.now) in
         (result.count ≡ length ts) × (result.length ≡ length (area_bytes ts)) }
 {
-    match p {
-        Place::At {
-            start: _,
-            key_end,
-            end,
-        } => Measure {
+    match place {
+        Some(p) => Size {
             count,
-            length: key_end + 1 + value.len() + (area.len() - end),
+            length: p.key_end + 1 + value.len() + (area.len() - p.end),
         },
-        Place::Nowhere => Measure {
+        None => Size {
             count: count + 1,
             length: area.len() + 9 + key.len() + value.len(),
         },
-        Place::Malformed => Measure { count, length: 0 },
     }
 }
 
@@ -99,23 +69,16 @@ pub fn put_item(out: &mut [u8], at: usize, key: &[u8], value: &[u8]) -> usize
     lists::put(out, d, value)
 }
 
-// Writes the area with another value in the item from `start` to `end`, whose key ends at `stop`, to the front of `out`.
-fn put_replaced(
-    area: &[u8],
-    start: usize,
-    stop: usize,
-    end: usize,
-    value: &[u8],
-    out: &mut [u8],
-) -> usize
-    requires { (start + 8 ≤ stop) × (stop < end) × (end ≤ length area.now) × (length value.now ≤ file_limit)
-        × (stop + 1 + length value.now + (length area.now - end) ≤ length out.old) }
-    ensures { let new = replaced area.now start stop end value.now in
+// Writes the area with another value in the item at `p` to the front of `out`.
+fn put_replaced(area: &[u8], p: Place, value: &[u8], out: &mut [u8]) -> usize
+    requires { (p.start + 8 ≤ p.key_end) × (p.key_end < p.end) × (p.end ≤ length area.now) × (length value.now ≤ file_limit)
+        × (p.key_end + 1 + length value.now + (length area.now - p.end) ≤ length out.old) }
+    ensures { let new = replaced area.now p.start p.key_end p.end value.now in
         (result ≡ length new) × (out.new ≡ over new out.old) }
 {
-    let a = lists::put_part(out, 0, area, 0, start);
-    let b = put_changed(out, a, area, start, stop, value);
-    lists::put_part(out, b, area, end, area.len())
+    let a = lists::put_part(out, 0, area, 0, p.start);
+    let b = put_changed(out, a, area, p.start, p.key_end, value);
+    lists::put_part(out, b, area, p.end, area.len())
 }
 
 // Writes the area with one more item behind it, its key in upper case, to the front of `out`.
@@ -134,67 +97,51 @@ pub fn write_set(
     count: usize,
     key: &[u8],
     value: &[u8],
-    p: Place,
+    place: Option<Place>,
     out: &mut [u8],
-) -> Measure
-    requires { (is_some (parse count area.now) ≡ true) × (p ≡ locate_of area.now count key.now) × (length value.now ≤ file_limit)
+) -> Size
+    requires { (Ok place ≡ locate_of area.now count key.now) × (length value.now ≤ file_limit)
         × (length (area_bytes (set_item key.now value.now (items_in count area.now))) ≤ length out.old) }
     ensures { let ts = set_item key.now value.now (items_in count area.now) in
         (result.count ≡ length ts) × (result.length ≡ length (area_bytes ts)) × (out.new ≡ over (area_bytes ts) out.old) }
 {
-    match p {
-        Place::At {
-            start,
-            key_end,
-            end,
-        } => {
-            let last = put_replaced(area, start, key_end, end, value, out);
-            Measure {
-                count,
-                length: last,
-            }
-        }
-        Place::Nowhere => {
-            let last = put_appended(area, key, value, out);
-            Measure {
-                count: count + 1,
-                length: last,
-            }
-        }
-        Place::Malformed => Measure { count, length: 0 },
+    match place {
+        Some(p) => Size {
+            count,
+            length: put_replaced(area, p, value, out),
+        },
+        None => Size {
+            count: count + 1,
+            length: put_appended(area, key, value, out),
+        },
     }
 }
 
 // The area with this value at the first item with this key, which keeps its spelling and place, or with one more item. Later items with the key
 // stay as they are.
-pub fn set(area: &[u8], count: usize, key: &[u8], value: &[u8], out: &mut [u8]) -> Edited
+pub fn set(
+    area: &[u8],
+    count: usize,
+    key: &[u8],
+    value: &[u8],
+    out: &mut [u8],
+) -> Result<Size, Refusal>
     ensures { let plan = set_plan key.now value.now count area.now (length out.old) in
         (result ≡ answer plan) × (out.new ≡ over (bytes plan) out.old) }
 {
-    let p = items::locate(area, count, key);
-    if is_malformed(p) {
-        return Edited::Refused(Refusal::MalformedArea);
-    }
+    let place = items::locate(area, count, key)?;
     if !keys::is_key(key) {
-        return Edited::Refused(Refusal::BadKey);
+        return Err(Refusal::BadKey);
     }
     if !utf8::is_utf8(value) {
-        return Edited::Refused(Refusal::NotUtf8);
+        return Err(Refusal::NotUtf8);
     }
     if value.len() > replies::FILE_LIMIT {
-        return Edited::Refused(Refusal::NoRoom);
+        return Err(Refusal::NoRoom);
     }
-    let m = measure_set(area, count, key, value, p);
-    let n = m.length;
-    if out.len() < n {
-        return Edited::Refused(Refusal::NoRoom);
+    let n = measure_set(area, count, key, value, place).length;
+    if out.len() < n || n > replies::FILE_LIMIT {
+        return Err(Refusal::NoRoom);
     }
-    if n > replies::FILE_LIMIT {
-        return Edited::Refused(Refusal::NoRoom);
-    }
-    let w = write_set(area, count, key, value, p, out);
-    Edited::Done {
-        count: w.count,
-        length: w.length,
-    }
+    Ok(write_set(area, count, key, value, place, out))
 }

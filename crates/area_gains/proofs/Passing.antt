@@ -3,11 +3,12 @@ use Prim.Native.Nat.{ℕ, ◌+◌, ◌-◌, ◌≤◌, ◌<◌}
 use native.Mathlib.Omega.{arith}
 use mathlib.Core.Path.{◌≡◌, sym, ap, ◌∙◌}
 use mathlib.Core.Bool.{Bool, true, false}
+use Rattle.std.specs.Prelude.{Option, None, Some}
 use mathlib.Core.List.{List, [], ◌∷◌, ◌++◌, map, append_assoc, append-nil}
 use lib.ListN.{length, get_or, set, take, drop, length-append, length-map, length-set, take-append-drop}
 use lib.Seq.{length-take-le}
 use Rattle.lists.specs.Bytes.{Small}
-use Rattle.lists.specs.Choice.{is_some}
+use Rattle.lists.specs.Choice.{is_some, provided}
 use Rattle.lists.specs.Write.{part}
 use Rattle.keys.specs.Keys.{keys}
 use Rattle.items.specs.Items.{Item, item_bytes, area_bytes, size_of, parse, items_in, with_value}
@@ -83,27 +84,27 @@ module _ {s : List ℕ} {count : ℕ} {vs : List (List ℕ)} {at left : ℕ} {m 
     last-few = omega (arith, x.passed, few done)
 
   -- the bytes of an item with another value, as the code writes them
-  pub new-bytes : {a b c d : ℕ} (t : Turn s at left a b c d) → Small s → (v : List ℕ) → changed s at b v ≡ item_bytes (with_value v t.item)
-  new-bytes {a} {b} {c} {d} t sm v =
+  pub new-bytes : {l a b c d : ℕ} (t : Turn s at left l a b c d) → Small s → (v : List ℕ) → changed s at b v ≡ item_bytes (with_value v t.item)
+  new-bytes {l} {a} {b} {c} {d} t sm v =
       let r : s ≡ take at s ++ (item_bytes t.item ++ drop (d - at) (drop at s)) =
       sym (take-append-drop at s) ∙ ap (λ (l : List ℕ). take at s ++ l) (sym (take-append-drop (d - at) (drop at s)) ∙ ap (λ (l : List ℕ). l ++ drop (d - at) (drop at s)) (t.bytes sm)) in
       changed-item s (take at s) _ t.item v at b r (sym (length-take-le at s x.todo.within)) t.key-end
 
-  module _ {a b c d : ℕ} (t : Turn s at left a b c d) (more : 0 < left) {i : ℕ} {y : Bool} (p : i ≡ gain_place (part a b s)) (e : y ≡ get_or m i false) where
-    placed : i ≡ gain_place t.item.key
-    placed = p ∙ ap gain_place t.key
+  module _ {l a b c d : ℕ} (t : Turn s at left l a b c d) (more : left ≡ l + 1) {o : Option ℕ} (e : o ≡ provided (λ i. get_or m i false) (gain_place (part a b s))) where
+    placed : provided (λ i. get_or m i false) (gain_place t.item.key) ≡ o
+    placed = ap (λ k. provided (λ i. get_or m i false) (gain_place k)) (sym t.key) ∙ sym e
 
-    moved : (x' : Item) → length (done ++ (x' ∷ [])) + (left - 1) ≡ count
+    moved : (x' : Item) → length (done ++ (x' ∷ [])) + l ≡ count
     moved x' = rw length-append (omega (arith, x.passed))
 
-    behind : (x' : Item) (m' : List Bool) → merged (marked gain_keys m vs) (items_in left (drop at s)) ≡ x' ∷ merged (marked gain_keys m' vs) (items_in (left - 1) (drop d s))
-        → set_each (present vs) (items_in count s) ≡ (done ++ (x' ∷ [])) ++ merged (marked gain_keys m' vs) (items_in (left - 1) (drop d s))
+    behind : (x' : Item) (m' : List Bool) → merged (marked gain_keys m vs) (items_in left (drop at s)) ≡ x' ∷ merged (marked gain_keys m' vs) (items_in l (drop d s))
+        → set_each (present vs) (items_in count s) ≡ (done ++ (x' ∷ [])) ++ merged (marked gain_keys m' vs) (items_in l (drop d s))
     behind x' m' f = x.same ∙ ap (λ (ts : List Item). done ++ ts) f ∙ sym (append_assoc done (x' ∷ []) _)
 
     -- the item stays as it is
-    pub pass-keep : y ≡ false → Passing s count vs d (left - 1) m (done ++ (t.item ∷ []))
+    pub pass-keep : o ≡ None → Passing s count vs d l m (done ++ (t.item ∷ []))
     pass-keep f =
-        let n = not-marked m vs x.five x.many t.item.key (ap (λ (j : ℕ). get_or m j false) (sym placed) ∙ sym e ∙ f) in
+        let n = not-marked m vs x.five x.many t.item.key (placed ∙ f) in
         record {
           todo = t.rest;
           five = x.five;
@@ -112,23 +113,24 @@ module _ {s : List ℕ} {count : ℕ} {vs : List (List ℕ)} {at left : ℕ} {m 
           passed = moved t.item;
         }
 
-    -- the item gets the text at its place
-    abbrev pub new : Item
-    new = with_value (get_or vs i []) t.item
+    module _ (i : ℕ) (f : o ≡ Some i) where
+      -- the item gets the text at its place
+      abbrev pub new : Item
+      new = with_value (get_or vs i []) t.item
 
-    waiting : y ≡ true → Waits m vs x.five x.many t.item.key
-    waiting f = is-marked m vs x.five x.many t.item.key (ap (λ (j : ℕ). get_or m j false) (sym placed) ∙ sym e ∙ f)
+      waits : Waits m vs x.five x.many t.item.key i
+      waits = is-marked m vs x.five x.many t.item.key i (placed ∙ f)
 
-    pub pass-within : y ≡ true → i < 5
-    pass-within f = rw placed (waiting f).within
+      pub pass-within : i < 5
+      pass-within = waits.within
 
-    pub pass-set : y ≡ true → Passing s count vs d (left - 1) (set m i false) (done ++ (new ∷ []))
-    pass-set f =
-        let w = waiting f in
-        record {
-          todo = t.rest;
-          five = length-set m i false ∙ x.five;
-          many = x.many;
-          same = behind new (set m i false) (ap (merged (marked gain_keys m vs)) t.list ∙ merged-take (marked gain_keys m vs) t.item _ _ w.gets ∙ rw (w.leaves, placed));
-          passed = moved new;
-        }
+      pub pass-set : Passing s count vs d l (set m i false) (done ++ (new ∷ []))
+      pass-set =
+          let w = waits in
+          record {
+            todo = t.rest;
+            five = length-set m i false ∙ x.five;
+            many = x.many;
+            same = behind new (set m i false) (ap (merged (marked gain_keys m vs)) t.list ∙ merged-take (marked gain_keys m vs) t.item _ _ w.gets ∙ rw w.leaves);
+            passed = moved new;
+          }

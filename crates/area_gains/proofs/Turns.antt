@@ -1,13 +1,14 @@
 -- The two loops of the pass: one that measures, and one that writes.
-use Prim.Native.Nat.{ℕ, ◌+◌, ◌-◌, ◌≤◌, ◌<◌}
+use Prim.Native.Nat.{ℕ, ◌+◌, ◌-◌, ◌≤◌}
 use native.Mathlib.Nat.{zero-add}
 use native.Mathlib.Omega.{arith}
 use mathlib.Core.Path.{◌≡◌, refl, sym, ap, ◌∙◌}
 use mathlib.Core.Bool.{Bool, true, false}
+use Rattle.std.specs.Prelude.{Option, None, Some}
 use mathlib.Core.List.{List, [], ◌∷◌, ◌++◌}
 use lib.ListN.{length, get_or, set}
 use Rattle.lists.specs.Bytes.{Small}
-use Rattle.lists.specs.Choice.{is_some}
+use Rattle.lists.specs.Choice.{is_some, provided}
 use Rattle.lists.specs.Write.{over, splice, part}
 use Rattle.lists.proofs.Wrote.{Wrote, start, next, from_start}
 use Rattle.replies.specs.Limits.{file_limit}
@@ -16,7 +17,7 @@ use Rattle.items.proofs.Loops.{Turn}
 use Rattle.area_edit.specs.Edits.{changed}
 use Rattle.area_gains.specs.Gains.{set_each, gain_keys, marked, marks, present, gain_place, added, capped}
 use Rattle.area_gains.proofs.Passing.{snoc-bytes, snoc-length, Passing, pass-begin, pass-room, pass-keep, pass-set, last-bytes, last-length, last-count, last-few, new-bytes}
-use Rattle.area_gains.proofs.Rest.{more}
+use Rattle.area_gains.proofs.Rest.{more as bigger}
 
 -- ---- the loop that measures
 
@@ -31,21 +32,21 @@ measure-begin s count vs m n e p = record { done = []; pass = pass-begin s count
 
 module _ {s : List ℕ} {count : ℕ} {vs : List (List ℕ)} {at left : ℕ} {m : List Bool} {size : ℕ} (x : Measuring s count vs at left m size) where
   pub measure-end : left ≡ 0 → (r : ℕ) → r ≡ capped (size + length (added gain_keys m vs)) → r ≡ capped (length (area_bytes (set_each (present vs) (items_in count s))))
-  measure-end z r e = more (length (area_bytes x.done)) (length (added gain_keys m vs)) e x.sized ∙ ap capped (sym (last-length x.pass z))
+  measure-end z r e = bigger (length (area_bytes x.done)) (length (added gain_keys m vs)) e x.sized ∙ ap capped (sym (last-length x.pass z))
 
-  module _ {a b c d : ℕ} (t : Turn s at left a b c d) (left_one : 0 < left) {i : ℕ} {y : Bool} (p : i ≡ gain_place (part a b s)) (e : y ≡ get_or m i false) where
+  module _ {l a b c d : ℕ} (t : Turn s at left l a b c d) (more : left ≡ l + 1) {w : Option ℕ} (e : w ≡ provided (λ i. get_or m i false) (gain_place (part a b s))) where
     grows : (t' : Item) (n r : ℕ) → n ≡ size_of t' → r ≡ capped (size + n) → r ≡ capped (length (area_bytes (x.done ++ (t' ∷ []))))
-    grows t' n r l f = more (length (area_bytes x.done)) n f x.sized ∙ ap capped (omega (arith, snoc-length x.done t'))
+    grows t' n r q f = bigger (length (area_bytes x.done)) n f x.sized ∙ ap capped (omega (arith, snoc-length x.done t'))
 
-    pub measure-keep : y ≡ false → (r : ℕ) → r ≡ capped (size + (d - at)) → Measuring s count vs d (left - 1) m r
+    pub measure-keep : w ≡ None → (r : ℕ) → r ≡ capped (size + (d - at)) → Measuring s count vs d l m r
     measure-keep f r g =
-        record { done = x.done ++ (t.item ∷ []); pass = pass-keep x.pass t left_one p e f; sized = grows t.item (d - at) r (omega (arith, t.end)) g }
+        record { done = x.done ++ (t.item ∷ []); pass = pass-keep x.pass t more e f; sized = grows t.item (d - at) r (omega (arith, t.end)) g }
 
-    pub measure-set : y ≡ true → (v : List ℕ) → v ≡ get_or vs i [] → (r : ℕ) → r ≡ capped (size + (c - at + length v)) → Measuring s count vs d (left - 1) (set m i false) r
-    measure-set f v h r g =
+    pub measure-set : (i : ℕ) → w ≡ Some i → (v : List ℕ) → v ≡ get_or vs i [] → (r : ℕ) → r ≡ capped (size + (c - at + length v)) → Measuring s count vs d l (set m i false) r
+    measure-set i f v h r g =
         record {
           done = x.done ++ (with_value (get_or vs i []) t.item ∷ []);
-          pass = pass-set x.pass t left_one p e f;
+          pass = pass-set x.pass t more e i f;
           sized = grows (with_value (get_or vs i []) t.item) (c - at + length v) r (omega (arith, t.value-start, t.key-end, ap length h)) g;
         }
 
@@ -79,35 +80,35 @@ module _ {s : List ℕ} {count : ℕ} {vs : List (List ℕ)} {out₀ out : List 
         let b = last-bytes x.pass z in
         (e ∙ sym (last-count x.pass z), w.ends ∙ rw (zero-add, b), from_start w ∙ rw b)
 
-  module _ {a b c d : ℕ} (t : Turn s at left a b c d) (left_one : 0 < left) {i : ℕ} {y : Bool} (p : i ≡ gain_place (part a b s)) (e : y ≡ get_or m i false) where
+  module _ {l a b c d : ℕ} (t : Turn s at left l a b c d) (more : left ≡ l + 1) {w : Option ℕ} (e : w ≡ provided (λ i. get_or m i false) (gain_place (part a b s))) where
     -- there is room for one more
     room : (t' : Item) {d' left' : ℕ} {m' : List Bool} → Passing s count vs d' left' m' (x.done ++ (t' ∷ [])) → (n : ℕ)
         → length (area_bytes (set_each (present vs) (items_in count s))) ≤ n → o + size_of t' ≤ n
     room t' q n h = omega (arith, pass-room q, snoc-length x.done t', h, x.wrote.ends)
 
-    pub keep-room : y ≡ false → length (area_bytes (set_each (present vs) (items_in count s))) ≤ length out₀ → o + (d - at) ≤ length out
-    keep-room f h = omega (arith, room t.item (pass-keep x.pass t left_one p e f) (length out₀) h, t.end, x.long)
+    pub keep-room : w ≡ None → length (area_bytes (set_each (present vs) (items_in count s))) ≤ length out₀ → o + (d - at) ≤ length out
+    keep-room f h = omega (arith, room t.item (pass-keep x.pass t more e f) (length out₀) h, t.end, x.long)
 
-    pub write-keep : y ≡ false → Small s → (o' : ℕ) (out' : List ℕ) → length out' ≡ length out → (o' ≡ o + length (part at d s)) × (out' ≡ splice out o (part at d s))
-        → Writing s count vs out₀ out' d (left - 1) m o'
-    write-keep f sm o' out' l w =
+    pub write-keep : w ≡ None → Small s → (o' : ℕ) (out' : List ℕ) → length out' ≡ length out → (o' ≡ o + length (part at d s)) × (out' ≡ splice out o (part at d s))
+        → Writing s count vs out₀ out' d l m o'
+    write-keep f sm o' out' n q =
         record {
           done = x.done ++ (t.item ∷ []);
-          pass = pass-keep x.pass t left_one p e f;
-          wrote = rw (snoc-bytes, ← t.bytes sm) (next x.wrote (part at d s) w);
-          long = l ∙ x.long;
+          pass = pass-keep x.pass t more e f;
+          wrote = rw (snoc-bytes, ← t.bytes sm) (next x.wrote (part at d s) q);
+          long = n ∙ x.long;
         }
 
-    pub set_room : y ≡ true → (v : List ℕ) → v ≡ get_or vs i [] → (n : ℕ) → length (area_bytes (set_each (present vs) (items_in count s))) ≤ n → o + (b + 1 - at) + length v ≤ n
-    set_room f v h n r =
-        omega (arith, room (with_value (get_or vs i []) t.item) (pass-set x.pass t left_one p e f) n r, t.key-end, ap length h)
+    pub set_room : (i : ℕ) → w ≡ Some i → (v : List ℕ) → v ≡ get_or vs i [] → (n : ℕ) → length (area_bytes (set_each (present vs) (items_in count s))) ≤ n → o + (b + 1 - at) + length v ≤ n
+    set_room i f v h n r =
+        omega (arith, room (with_value (get_or vs i []) t.item) (pass-set x.pass t more e i f) n r, t.key-end, ap length h)
 
-    pub write-set : y ≡ true → Small s → (v : List ℕ) → v ≡ get_or vs i [] → (o' : ℕ) (out' : List ℕ) → length out' ≡ length out
-        → (o' ≡ o + length (changed s at b v)) × (out' ≡ splice out o (changed s at b v)) → Writing s count vs out₀ out' d (left - 1) (set m i false) o'
-    write-set f sm v h o' out' l w =
+    pub write-set : (i : ℕ) → w ≡ Some i → Small s → (v : List ℕ) → v ≡ get_or vs i [] → (o' : ℕ) (out' : List ℕ) → length out' ≡ length out
+        → (o' ≡ o + length (changed s at b v)) × (out' ≡ splice out o (changed s at b v)) → Writing s count vs out₀ out' d l (set m i false) o'
+    write-set i f sm v h o' out' n q =
         record {
           done = x.done ++ (with_value (get_or vs i []) t.item ∷ []);
-          pass = pass-set x.pass t left_one p e f;
-          wrote = rw (snoc-bytes, ← h, ← new-bytes x.pass t sm v) (next x.wrote (changed s at b v) w);
-          long = l ∙ x.long;
+          pass = pass-set x.pass t more e i f;
+          wrote = rw (snoc-bytes, ← h, ← new-bytes x.pass t sm v) (next x.wrote (changed s at b v) q);
+          long = n ∙ x.long;
         }

@@ -1,11 +1,10 @@
 -- `set_replaygain` of the source on a lent item area: the five ReplayGain items, set one after another.
-use Rattle.std.specs.Prelude.{ℕ, ◌+◌, Bool, true, ◌&&◌, cond, List, [], ◌∷◌, map, length, drop, leb, ltb}
-use Rattle.lists.specs.Choice.{found}
+use Rattle.std.specs.Prelude.{ℕ, ◌+◌, Option, Bool, true, ◌&&◌, cond, List, [], ◌∷◌, map, length, drop, leb, ltb}
 use Rattle.replies.specs.Limits.{file_limit}
 use Rattle.replies.specs.Refusal.{need, Plan}
 use Rattle.replies.specs.declared.Refusal.TheVariants.{NotUtf8}
 use Rattle.utf8.specs.Utf8.{valid}
-use Rattle.keys.specs.Keys.{upper_all, which_of, keys}
+use Rattle.keys.specs.Keys.{which_of, keys}
 use Rattle.items.specs.Items.{Item, area_bytes, set_item, text_item, new_item}
 use Rattle.area_edit.specs.Edits.{edited}
 
@@ -44,9 +43,9 @@ set_gains_plan texts n s room = edited (need NotUtf8 (all_valid texts) ∷ []) (
 
 -- ---- the pass that sets them
 
--- the place of a key among the five, and 5 for any other
-unfoldable pub gain_place : List ℕ → ℕ
-gain_place key = found (which_of gain_keys key) 5 (λ i. i)
+-- the place of a key among the five
+unfoldable pub gain_place : List ℕ → Option ℕ
+gain_place key = which_of gain_keys key
 
 -- as an item is appended
 abbrev pub capital : Item → Item

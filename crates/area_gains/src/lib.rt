@@ -1,313 +1,174 @@
 // The ReplayGain items of an item area, set in one pass.
 #![tactic(auto)]
 
-ghost use Rattle.std.specs.Prelude.{◌≡◌, true, false, [], ◌∷◌, ◌≤◌, ◌<◌, ◌+◌, length, get_or};
-ghost use Rattle.lists.specs.Choice.{is_some};
+ghost use Rattle.std.specs.Prelude.{◌≡◌, true, false, List, ℕ, [], ◌∷◌, ◌≤◌, ◌<◌, ◌+◌, length, get_or, map};
+ghost use Rattle.lists.specs.Choice.{is_some, provided};
 ghost use Rattle.lists.specs.Write.{over, splice};
 ghost use Rattle.replies.specs.Limits.{file_limit};
 ghost use Rattle.items.specs.Items.{area_bytes, parse, items_in};
 ghost use Rattle.area_edit.specs.Edits.{answer, bytes};
 ghost use Rattle.area_gains.specs.Gains.{set_each, gain_keys, marked, marks, present, all_valid, set_gains_plan, gain_place, added, capped};
 
-use area_edit::{Edited, Measure};
-use items::Stepped;
-use keys::Which;
+use items::{Size, Stepped};
 use replies::Refusal;
 
-// The place of a key among REPLAYGAIN_KEYS, and 5 for any other.
-fn place(key: &[u8]) -> usize
+// REPLAYGAIN_KEYS.
+const GAIN_KEYS: [&[u8]; 5] = [
+    &keys::TAG_REPLAYGAIN_TRACK_GAIN,
+    &keys::TAG_REPLAYGAIN_TRACK_PEAK,
+    &keys::TAG_REPLAYGAIN_ALBUM_GAIN,
+    &keys::TAG_REPLAYGAIN_ALBUM_PEAK,
+    &keys::TAG_REPLAYGAIN_ALGORITHM,
+];
+
+// The key at a place among REPLAYGAIN_KEYS.
+fn key_at(i: usize) -> &'static [u8]
+    requires { i < 5 }
+    ensures { result.now ≡ get_or gain_keys i [] }
+{
+    GAIN_KEYS[i]
+}
+
+// The place of a key among REPLAYGAIN_KEYS, the last five of the eight.
+fn place(key: &[u8]) -> Option<usize>
     ensures { result ≡ gain_place key.now }
 {
-    let w = keys::which_key(key);
-    let Which::Key(i) = w else {
-        return 5;
-    };
-    if i < 3 {
-        return 5;
-    }
-    i - 3
+    keys::which_key(key)?.checked_sub(3)
 }
 
-// The text at a place.
-fn text<'a>(
-    i: usize,
-    track_gain: &'a [u8],
-    track_peak: &'a [u8],
-    album_gain: &'a [u8],
-    album_peak: &'a [u8],
-    algorithm: &'a [u8],
-) -> &'a [u8]
-    requires { i < 5 }
-    ensures { result.now ≡ get_or (track_gain.now ∷ track_peak.now ∷ album_gain.now ∷ album_peak.now ∷ algorithm.now ∷ []) i [] }
+// The place of the text that is still to be set at this key.
+fn waiting(todo: [bool; 5], key: &[u8]) -> Option<usize>
+    ensures { result ≡ provided (λ i. get_or todo i false) (gain_place key.now) }
 {
-    if i == 0 {
-        return track_gain;
-    }
-    if i == 1 {
-        return track_peak;
-    }
-    if i == 2 {
-        return album_gain;
-    }
-    if i == 3 {
-        return album_peak;
-    }
-    algorithm
+    let i = place(key)?;
+    if todo[i] { Some(i) } else { None }
 }
 
-// Whether the text at a place is still to be set.
-fn waits(todo: [bool; 5], i: usize) -> bool
-    ensures { result ≡ get_or todo i false }
+// Which of the five are to be set.
+fn to_set(texts: [&[u8]; 5]) -> [bool; 5]
+    ensures { result ≡ marks (map (λ t. t.now) texts.entry) }
 {
-    if i < 5 {
-        return todo[i];
+    let mut marks = [false; 5];
+    for i in 0..5 {
+        marks[i] = 0 < texts[i].len();
     }
-    false
+    marks
 }
 
 // Whether each of the five is UTF-8.
-fn are_utf8(
-    track_gain: &[u8],
-    track_peak: &[u8],
-    album_gain: &[u8],
-    album_peak: &[u8],
-    algorithm: &[u8],
-) -> bool
-    ensures { result ≡ all_valid (track_gain.now ∷ track_peak.now ∷ album_gain.now ∷ album_peak.now ∷ algorithm.now ∷ []) }
+fn are_utf8(texts: [&[u8]; 5]) -> bool
+    ensures { result ≡ all_valid (map (λ t. t.now) texts.entry) }
 {
-    if !utf8::is_utf8(track_gain) {
-        return false;
+    for i in 0..5 {
+        if !utf8::is_utf8(texts[i]) {
+            return false;
+        }
     }
-    if !utf8::is_utf8(track_peak) {
-        return false;
-    }
-    if !utf8::is_utf8(album_gain) {
-        return false;
-    }
-    if !utf8::is_utf8(album_peak) {
-        return false;
-    }
-    utf8::is_utf8(algorithm)
+    true
 }
 
 // A size with so many more bytes.
 fn grown(size: usize, more: usize) -> usize
     ensures { result ≡ capped (size + more) }
 {
-    if size > replies::FILE_LIMIT {
-        return replies::FILE_LIMIT + 1;
-    }
-    if more > replies::FILE_LIMIT - size {
-        return replies::FILE_LIMIT + 1;
-    }
-    size + more
-}
-
-// A size with one more item, if it is still to be set.
-fn with_item(size: usize, waits: bool, key: &[u8], value: &[u8]) -> usize
-    requires { length key.now ≤ 255 }
-    ensures { result ≡ capped (size + length (added (key.now ∷ []) (waits ∷ []) (value.now ∷ []))) }
-{
-    if waits {
-        return grown(size, 9 + key.len() + value.len());
-    }
-    grown(size, 0)
+    size.saturating_add(more).min(replies::FILE_LIMIT + 1)
 }
 
 // A size with the items that are still to be set.
-fn with_rest(
-    size: usize,
-    todo: [bool; 5],
-    track_gain: &[u8],
-    track_peak: &[u8],
-    album_gain: &[u8],
-    album_peak: &[u8],
-    algorithm: &[u8],
-) -> usize
-    ensures { result ≡ capped (size + length (added gain_keys todo (track_gain.now ∷ track_peak.now ∷ album_gain.now ∷ album_peak.now ∷ algorithm.now ∷ []))) }
+fn with_rest(mut size: usize, todo: [bool; 5], texts: [&[u8]; 5]) -> usize
+    requires { size ≤ file_limit + 1 }
+    ensures { result ≡ capped (size + length (added gain_keys todo (map (λ t. t.now) texts.entry))) }
 {
-    let k0 = keys::TAG_REPLAYGAIN_TRACK_GAIN;
-    let k1 = keys::TAG_REPLAYGAIN_TRACK_PEAK;
-    let k2 = keys::TAG_REPLAYGAIN_ALBUM_GAIN;
-    let k3 = keys::TAG_REPLAYGAIN_ALBUM_PEAK;
-    let k4 = keys::TAG_REPLAYGAIN_ALGORITHM;
-    let a = with_item(size, todo[0], &k0, track_gain);
-    let b = with_item(a, todo[1], &k1, track_peak);
-    let c = with_item(b, todo[2], &k2, album_gain);
-    let d = with_item(c, todo[3], &k3, album_peak);
-    with_item(d, todo[4], &k4, algorithm)
-}
-
-// Which of the five are to be set.
-fn to_set(
-    track_gain: &[u8],
-    track_peak: &[u8],
-    album_gain: &[u8],
-    album_peak: &[u8],
-    algorithm: &[u8],
-) -> [bool; 5]
-    ensures { result ≡ marks (track_gain.now ∷ track_peak.now ∷ album_gain.now ∷ album_peak.now ∷ algorithm.now ∷ []) }
-{
-    [
-        0 < track_gain.len(),
-        0 < track_peak.len(),
-        0 < album_gain.len(),
-        0 < album_peak.len(),
-        0 < algorithm.len(),
-    ]
+    for i in 0..5 {
+        if todo[i] {
+            size = grown(grown(size, 9 + key_at(i).len()), texts[i].len());
+        }
+    }
+    size
 }
 
 // How many bytes a well-formed area has with the texts set.
-fn measure_gains<'a>(
-    area: &[u8],
-    count: usize,
-    track_gain: &'a [u8],
-    track_peak: &'a [u8],
-    album_gain: &'a [u8],
-    album_peak: &'a [u8],
-    algorithm: &'a [u8],
-) -> usize
+fn measure_gains(area: &[u8], count: usize, texts: [&[u8]; 5]) -> usize
     requires { is_some (parse count area.now) ≡ true }
-    ensures { result ≡ capped (length (area_bytes (set_each (present (track_gain.now ∷ track_peak.now ∷ album_gain.now ∷ album_peak.now ∷ algorithm.now ∷ [])) (items_in count area.now)))) }
+    ensures { result ≡ capped (length (area_bytes (set_each (present (map (λ t. t.now) texts.entry)) (items_in count area.now)))) }
 {
-    let mut todo = to_set(track_gain, track_peak, album_gain, album_peak, algorithm);
+    let mut todo = to_set(texts);
     let mut at = 0;
-    let mut left = count;
     let mut size = 0;
-    while 0 < left {
-        let s = items::step(area, at);
+    for _ in 0..count {
         let Stepped::Item {
-            flags: _,
             key_start,
             key_end,
             value_start,
             value_end,
-        } = s
+            ..
+        } = items::step(area, at)
         else {
             return size;
         };
-        left -= 1;
-        let i = place(&area[key_start..key_end]);
-        if waits(todo, i) {
+        if let Some(i) = waiting(todo, &area[key_start..key_end]) {
             todo[i] = false;
-            let value = text(i, track_gain, track_peak, album_gain, album_peak, algorithm);
-            size = grown(size, value_start - at + value.len());
+            size = grown(grown(size, value_start - at), texts[i].len());
         } else {
             size = grown(size, value_end - at);
         }
         at = value_end;
     }
-    with_rest(
-        size, todo, track_gain, track_peak, album_gain, album_peak, algorithm,
-    )
-}
-
-// Writes an item behind what is written, if it is still to be set.
-fn put_waiting(out: &mut [u8], m: Measure, waits: bool, key: &[u8], value: &[u8]) -> Measure
-    requires { (m.count ≤ m.length) × (m.length + length (added (key.now ∷ []) (waits ∷ []) (value.now ∷ [])) ≤ length out.old)
-        × (length (added (key.now ∷ []) (waits ∷ []) (value.now ∷ [])) ≤ file_limit) }
-    ensures { let new = added (key.now ∷ []) (waits ∷ []) (value.now ∷ []) in
-        (result.count ≡ m.count + length (marked (key.now ∷ []) (waits ∷ []) (value.now ∷ []))) × (result.length ≡ m.length + length new)
-        × (out.new ≡ splice out.old m.length new) × (result.count ≤ result.length) }
-{
-    if waits {
-        let end = area_edit::put_item(out, m.length, key, value);
-        return Measure {
-            count: m.count + 1,
-            length: end,
-        };
-    }
-    m
+    with_rest(size, todo, texts)
 }
 
 // Writes the items that are still to be set behind what is written.
-fn put_rest(
-    out: &mut [u8],
-    m: Measure,
-    todo: [bool; 5],
-    track_gain: &[u8],
-    track_peak: &[u8],
-    album_gain: &[u8],
-    album_peak: &[u8],
-    algorithm: &[u8],
-) -> Measure
-    requires { (m.count ≤ m.length)
-        × (m.length + length (added gain_keys todo (track_gain.now ∷ track_peak.now ∷ album_gain.now ∷ album_peak.now ∷ algorithm.now ∷ [])) ≤ length out.old)
-        × (length (added gain_keys todo (track_gain.now ∷ track_peak.now ∷ album_gain.now ∷ album_peak.now ∷ algorithm.now ∷ [])) ≤ file_limit) }
-    ensures { let texts = track_gain.now ∷ track_peak.now ∷ album_gain.now ∷ album_peak.now ∷ algorithm.now ∷ [] in
-        (result.count ≡ m.count + length (marked gain_keys todo texts)) × (result.length ≡ m.length + length (added gain_keys todo texts))
-        × (out.new ≡ splice out.old m.length (added gain_keys todo texts)) }
+fn put_rest(out: &mut [u8], mut size: Size, todo: [bool; 5], texts: [&[u8]; 5]) -> Size
+    requires { let vs = map (λ t. t.now) texts in (size.count ≤ size.length)
+        × (size.length + length (added gain_keys todo vs) ≤ length out.old) × (length (added gain_keys todo vs) ≤ file_limit) }
+    ensures { let vs = map (λ t. t.now) texts.entry in
+        (result.count ≡ size.count + length (marked gain_keys todo vs)) × (result.length ≡ size.length + length (added gain_keys todo vs))
+        × (out.new ≡ splice out.old size.length (added gain_keys todo vs)) }
 {
-    let k0 = keys::TAG_REPLAYGAIN_TRACK_GAIN;
-    let k1 = keys::TAG_REPLAYGAIN_TRACK_PEAK;
-    let k2 = keys::TAG_REPLAYGAIN_ALBUM_GAIN;
-    let k3 = keys::TAG_REPLAYGAIN_ALBUM_PEAK;
-    let k4 = keys::TAG_REPLAYGAIN_ALGORITHM;
-    let a = put_waiting(out, m, todo[0], &k0, track_gain);
-    let b = put_waiting(out, a, todo[1], &k1, track_peak);
-    let c = put_waiting(out, b, todo[2], &k2, album_gain);
-    let d = put_waiting(out, c, todo[3], &k3, album_peak);
-    put_waiting(out, d, todo[4], &k4, algorithm)
+    for k in 0..5 {
+        if todo[k] {
+            size = Size {
+                count: size.count + 1,
+                length: area_edit::put_item(out, size.length, key_at(k), texts[k]),
+            };
+        }
+    }
+    size
 }
 
 // Writes a well-formed area with the texts set to the front of `out`.
-fn write_gains<'a>(
-    area: &[u8],
-    count: usize,
-    track_gain: &'a [u8],
-    track_peak: &'a [u8],
-    album_gain: &'a [u8],
-    album_peak: &'a [u8],
-    algorithm: &'a [u8],
-    out: &mut [u8],
-) -> Measure
-    requires { (is_some (parse count area.now) ≡ true)
-        × (length (area_bytes (set_each (present (track_gain.now ∷ track_peak.now ∷ album_gain.now ∷ album_peak.now ∷ algorithm.now ∷ [])) (items_in count area.now))) ≤ length out.old)
-        × (length (area_bytes (set_each (present (track_gain.now ∷ track_peak.now ∷ album_gain.now ∷ album_peak.now ∷ algorithm.now ∷ [])) (items_in count area.now))) ≤ file_limit) }
-    ensures { let texts = track_gain.now ∷ track_peak.now ∷ album_gain.now ∷ album_peak.now ∷ algorithm.now ∷ [] in
-        let ts = set_each (present texts) (items_in count area.now) in
+fn write_gains(area: &[u8], count: usize, texts: [&[u8]; 5], out: &mut [u8]) -> Size
+    requires { let ts = set_each (present (map (λ t. t.now) texts)) (items_in count area.now) in
+        (is_some (parse count area.now) ≡ true) × (length (area_bytes ts) ≤ length out.old) × (length (area_bytes ts) ≤ file_limit) }
+    ensures { let ts = set_each (present (map (λ t. t.now) texts.entry)) (items_in count area.now) in
         (result.count ≡ length ts) × (result.length ≡ length (area_bytes ts)) × (out.new ≡ over (area_bytes ts) out.old) }
 {
-    let mut to_write = to_set(track_gain, track_peak, album_gain, album_peak, algorithm);
+    let mut to_write = to_set(texts);
     let mut at = 0;
-    let mut left = count;
     let mut o = 0;
-    while 0 < left {
-        let s = items::step(area, at);
+    for _ in 0..count {
         let Stepped::Item {
-            flags: _,
             key_start,
             key_end,
-            value_start: _,
             value_end,
-        } = s
+            ..
+        } = items::step(area, at)
         else {
-            return Measure { count, length: o };
+            return Size { count, length: o };
         };
-        left -= 1;
-        let i = place(&area[key_start..key_end]);
-        if waits(to_write, i) {
+        if let Some(i) = waiting(to_write, &area[key_start..key_end]) {
             to_write[i] = false;
-            let value = text(i, track_gain, track_peak, album_gain, album_peak, algorithm);
-            o = area_edit::put_changed(out, o, area, at, key_end, value);
+            o = area_edit::put_changed(out, o, area, at, key_end, texts[i]);
         } else {
             o = lists::put_part(out, o, area, at, value_end);
         }
         at = value_end;
     }
-    put_rest(
-        out,
-        Measure { count, length: o },
-        to_write,
-        track_gain,
-        track_peak,
-        album_gain,
-        album_peak,
-        algorithm,
-    )
+    put_rest(out, Size { count, length: o }, to_write, texts)
 }
 
-// The area with each of the texts that is not empty at its REPLAYGAIN key.
+// The area with each of the texts that is not empty at its REPLAYGAIN key. Five texts by their names: in an
+// array a place would stand for each name. Inside they are one.
 pub fn set_replaygain<'a>(
     area: &[u8],
     count: usize,
@@ -317,31 +178,21 @@ pub fn set_replaygain<'a>(
     album_peak: &'a [u8],
     algorithm: &'a [u8],
     out: &mut [u8],
-) -> Edited
+) -> Result<Size, Refusal>
     ensures { let texts = track_gain.now ∷ track_peak.now ∷ album_gain.now ∷ album_peak.now ∷ algorithm.now ∷ [] in
         let plan = set_gains_plan texts count area.now (length out.old) in
         (result ≡ answer plan) × (out.new ≡ over (bytes plan) out.old) }
 {
+    let texts = [track_gain, track_peak, album_gain, album_peak, algorithm];
     if !items::well_formed(area, count) {
-        return Edited::Refused(Refusal::MalformedArea);
+        return Err(Refusal::MalformedArea);
     }
-    if !are_utf8(track_gain, track_peak, album_gain, album_peak, algorithm) {
-        return Edited::Refused(Refusal::NotUtf8);
+    if !are_utf8(texts) {
+        return Err(Refusal::NotUtf8);
     }
-    let size = measure_gains(
-        area, count, track_gain, track_peak, album_gain, album_peak, algorithm,
-    );
-    if out.len() < size {
-        return Edited::Refused(Refusal::NoRoom);
+    let size = measure_gains(area, count, texts);
+    if out.len() < size || size > replies::FILE_LIMIT {
+        return Err(Refusal::NoRoom);
     }
-    if size > replies::FILE_LIMIT {
-        return Edited::Refused(Refusal::NoRoom);
-    }
-    let m = write_gains(
-        area, count, track_gain, track_peak, album_gain, album_peak, algorithm, out,
-    );
-    Edited::Done {
-        count: m.count,
-        length: m.length,
-    }
+    Ok(write_gains(area, count, texts, out))
 }

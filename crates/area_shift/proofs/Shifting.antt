@@ -4,7 +4,7 @@ use native.Mathlib.Nat.{zero-add, add-zero}
 use native.Mathlib.Omega.{arith}
 use mathlib.Core.Path.{◌≡◌, refl, sym, ap, ◌∙◌}
 use mathlib.Core.Bool.{Bool, true, false}
-use mathlib.Core.Option.{Option, none, some}
+use Rattle.std.specs.Prelude.{Option, None, Some, option_map}
 use mathlib.Core.List.{List, [], ◌∷◌, ◌++◌, map, append_assoc, append-nil}
 use lib.ListN.{length, take, drop, length-append, take-append-drop}
 use lib.Seq.{length-take-le}
@@ -21,10 +21,9 @@ use Rattle.replies.specs.Refusal.{need, no, yes}
 use Rattle.replies.specs.declared.Refusal.TheVariants.{MalformedArea, StepOutOfRange, NoRoom}
 use Rattle.frame.specs.declared.GainMode.{GainMode}
 use Rattle.frame.specs.declared.GainMode.TheVariants.{Saturating, Wrapping}
-use Rattle.decimal.specs.Writing.{shifted_is}
+use Rattle.decimal.specs.Writing.{text_of}
 use Rattle.decimal.specs.declared.Text.{Text}
-use Rattle.decimal.specs.declared.Shifted.{Shifted}
-use Rattle.decimal.proofs.Texts.{Moved, moved-is, stays-is, text-within}
+use Rattle.decimal.proofs.Texts.{text-within}
 use Rattle.values.specs.Stored.{shift_stored}
 use Rattle.values.proofs.Texts.{stored_short}
 use Rattle.slip.specs.Slip.{is_step}
@@ -79,8 +78,8 @@ module _ (m : GainMode) (steps : ℤ) where
   shift-size t = go (shift_stored t.key t.value steps) refl
     where
       go : (o : Option (List ℕ)) → shift_stored t.key t.value steps ≡ o → size_of (found o t (λ w. with_value w t)) ≤ size_of t + 32
-      go none e = omega arith
-      go (some w) e = omega (arith, (stored_short t.key t.value steps w e).size)
+      go None e = omega arith
+      go (Some w) e = omega (arith, (stored_short t.key t.value steps w e).size)
 
   pub shift-bytes : (ts : List Item) → length (area_bytes (shift_stored_gain m steps ts)) ≤ length (area_bytes ts) + 32 * length ts
   shift-bytes [] = rw shift_none (omega arith)
@@ -91,34 +90,48 @@ module _ (m : GainMode) (steps : ℤ) where
       go true e ih = rw (shift-goes t ts e) (omega (arith, length-area t ts))
       go false e ih = rw (shift-stays t ts e) (omega (arith, length-area t ts, length-area (shift_item steps t) (shift_stored_gain m steps ts), shift-size t))
 
+-- a new text, and what it holds
+pub record Moved (o : Option (List ℕ)) (t : Text) : Type 0 where
+  pub w : List ℕ
+  pub is : o ≡ Some w
+  pub text : t ≡ text_of w
+
+moved-is : (o : Option (List ℕ)) {t : Text} → Some t ≡ option_map text_of o → Moved o t
+moved-is None e = absurd (let z : ◌≡◌ {A = ℕ} 0 1 = cc in omega arith)
+moved-is (Some w) e = record { w = w; is = refl; text = cc }
+
+unmoved : (o : Option (List ℕ)) → option_map text_of o ≡ None → None ≡ o
+unmoved None e = refl
+unmoved (Some w) e = absurd (let z : ◌≡◌ {A = ℕ} 0 1 = cc in omega arith)
+
 -- ---- the bytes of one item, by whether it has a new text
 
 module _ (steps : ℤ) (s : List ℕ) (a k e : ℕ) where
-  pub bytes-found : shift_stored (part (a + 8) k s) (part (k + 1) e s) steps ≡ none → shifted_bytes steps s a k e ≡ part a e s
+  pub bytes-found : shift_stored (part (a + 8) k s) (part (k + 1) e s) steps ≡ None → shifted_bytes steps s a k e ≡ part a e s
   unfolding shifted_bytes
   bytes-found q = rw q
 
-  pub bytes-moved : (w : List ℕ) → shift_stored (part (a + 8) k s) (part (k + 1) e s) steps ≡ some w
+  pub bytes-moved : (w : List ℕ) → shift_stored (part (a + 8) k s) (part (k + 1) e s) steps ≡ Some w
       → shifted_bytes steps s a k e ≡ changed s a k w
   unfolding shifted_bytes
   bytes-moved w q = rw q
 
   -- what the code's answer says of them
-  module _ (x : Shifted) (q : x ≡ shifted_is (shift_stored (part (a + 8) k s) (part (k + 1) e s) steps)) where
-    pub stays-bytes : x.moved ≡ false → shifted_bytes steps s a k e ≡ part a e s
-    stays-bytes f = bytes-found (stays-is _ x q f)
+  pub stays-bytes : None ≡ option_map text_of (shift_stored (part (a + 8) k s) (part (k + 1) e s) steps) → shifted_bytes steps s a k e ≡ part a e s
+  stays-bytes q = bytes-found (sym (unmoved _ (sym q)))
 
-    pub moved-text : x.moved ≡ true → Moved (shift_stored (part (a + 8) k s) (part (k + 1) e s) steps) x
-    moved-text f = moved-is _ x q f
+  module _ {x : Text} (q : Some x ≡ option_map text_of (shift_stored (part (a + 8) k s) (part (k + 1) e s) steps)) where
+    pub moved-text : Moved (shift_stored (part (a + 8) k s) (part (k + 1) e s) steps) x
+    moved-text = moved-is _ q
 
-    pub moved-size : x.moved ≡ true → a + 8 ≤ k → k < e → e ≤ length s
-        → (length (shifted_bytes steps s a k e) ≡ k + 1 - a + x.text.len) × (x.text.len ≤ 21) × (x.text.len ≤ length x.text.bytes)
+    pub moved-size : a + 8 ≤ k → k < e → e ≤ length s
+        → (length (shifted_bytes steps s a k e) ≡ k + 1 - a + x.len) × (x.len ≤ 21) × (x.len ≤ length x.bytes)
     unfolding changed
-    moved-size f h i j =
-        let m = moved-text f in
-        let n : x.text.len ≡ length m.w = ap (λ (t : Text). t.len) m.text in
+    moved-size h i j =
+        let m = moved-text in
+        let n : x.len ≡ length m.w = ap (λ (t : Text). t.len) m.text in
         let l = length_part (a + 8) (k + 1) s (omega arith) in
-        (rw (bytes-moved m.w m.is) (simp length-append (omega arith)), omega (arith, (stored_short _ _ steps m.w m.is).size), text-within x.text m.w m.text)
+        (rw (bytes-moved m.w m.is) (simp length-append (omega arith)), omega (arith, (stored_short _ _ steps m.w m.is).size), text-within x m.w m.text)
 
 -- ---- room for an item as found
 
@@ -132,7 +145,7 @@ moved-room at k e n o m t h i j q r u = (h, omega arith, omega arith, omega arit
 
 -- ---- the bytes of a turn's item
 
-module _ (steps : ℤ) {s : List ℕ} {at left a b c d : ℕ} (t : Turn s at left a b c d) (small : Small s) where
+module _ (steps : ℤ) {s : List ℕ} {at left m' a b c d : ℕ} (t : Turn s at left m' a b c d) (small : Small s) where
   -- what precedes it and what follows it
   around : s ≡ take at s ++ (item_bytes t.item ++ drop (d - at) (drop at s))
   around =
@@ -147,9 +160,9 @@ module _ (steps : ℤ) {s : List ℕ} {at left a b c d : ℕ} (t : Turn s at lef
       stored o e = rw (← t.key-start, ← t.value-start, t.key, t.value) e
 
       go : (o : Option (List ℕ)) → shift_stored t.item.key t.item.value steps ≡ o → shifted_bytes steps s at b d ≡ item_bytes (shift_item steps t.item)
-      go none e = bytes-found steps s at b d (stored none e) ∙ t.bytes small ∙ rw e
-      go (some w) e =
-          bytes-moved steps s at b d w (stored (some w) e)
+      go None e = bytes-found steps s at b d (stored None e) ∙ t.bytes small ∙ rw e
+      go (Some w) e =
+          bytes-moved steps s at b d w (stored (Some w) e)
           ∙ changed-item s (take at s) _ t.item w at b around (sym (length-take-le at s (omega (arith, t.end, t.rest.within)))) t.key-end
           ∙ rw e
 
@@ -160,15 +173,15 @@ module _ (m : GainMode) (steps : ℤ) where
 
   -- ---- a turn's item goes or stays
 
-  module _ {s : List ℕ} {at left a b c d : ℕ} (t : Turn s at left a b c d) {y : Bool} (e : y ≡ goes m steps (part a b s) (part c d s)) where
+  module _ {s : List ℕ} {at left m' a b c d : ℕ} (t : Turn s at left m' a b c d) {y : Bool} (e : y ≡ goes m steps (part a b s) (part c d s)) where
     test : (z : Bool) → y ≡ z → goes m steps t.item.key t.item.value ≡ z
     test z f = rw (← t.key, ← t.value) (sym e ∙ f)
 
-    gone : y ≡ true → left-of (items_in left (drop at s)) ≡ left-of (items_in (left - 1) (drop d s))
-    gone f = ap left-of t.list ∙ shift-goes m steps t.item (items_in (left - 1) (drop d s)) (test true f)
+    gone : y ≡ true → left-of (items_in left (drop at s)) ≡ left-of (items_in m' (drop d s))
+    gone f = ap left-of t.list ∙ shift-goes m steps t.item (items_in m' (drop d s)) (test true f)
 
-    kept : y ≡ false → left-of (items_in left (drop at s)) ≡ shift_item steps t.item ∷ left-of (items_in (left - 1) (drop d s))
-    kept f = ap left-of t.list ∙ shift-stays m steps t.item (items_in (left - 1) (drop d s)) (test false f)
+    kept : y ≡ false → left-of (items_in left (drop at s)) ≡ shift_item steps t.item ∷ left-of (items_in m' (drop d s))
+    kept f = ap left-of t.list ∙ shift-stays m steps t.item (items_in m' (drop d s)) (test false f)
 
   -- nothing is left of no items
   ended : (s : List ℕ) (at left : ℕ) → left ≡ 0 → left-of (items_in left (drop at s)) ≡ []
@@ -181,18 +194,18 @@ module _ (m : GainMode) (steps : ℤ) where
     pub todo : Left s at left
     pub sized : length (area_bytes (left-of (items_in count s))) ≡ size + length (area_bytes (left-of (items_in left (drop at s))))
 
-  pub size-begin : (s : List ℕ) (count : ℕ) → is_some (parse count s) ≡ true → Sizing s count 0 count 0
-  size-begin s count e = record { todo = begin s count e; sized = sym (zero-add _) }
+  pub size-begin : (s : List ℕ) (count : ℕ) → is_some (parse count s) ≡ true → (left : ℕ) → left ≡ count → Sizing s count 0 left 0
+  size-begin s count e left all = rw all (record { todo = begin s count e; sized = sym (zero-add _) })
 
-  module _ {s : List ℕ} {count at left size a b c d : ℕ} (x : Sizing s count at left size) (t : Turn s at left a b c d) {y : Bool}
+  module _ {s : List ℕ} {count at left m' size a b c d : ℕ} (x : Sizing s count at left size) (t : Turn s at left m' a b c d) {y : Bool}
       (e : y ≡ goes m steps (part a b s) (part c d s)) where
-    pub size-drop : y ≡ true → Sizing s count d (left - 1) size
+    pub size-drop : y ≡ true → Sizing s count d m' size
     size-drop f = record { todo = t.rest; sized = x.sized ∙ ap (λ (ts : List Item). size + length (area_bytes ts)) (gone t e f) }
 
-    pub size-keep : y ≡ false → Small s → Sizing s count d (left - 1) (size + length (shifted_bytes steps s at b d))
+    pub size-keep : y ≡ false → Small s → Sizing s count d m' (size + length (shifted_bytes steps s at b d))
     size-keep f sm =
         let i = shift_item steps t.item in
-        let r = left-of (items_in (left - 1) (drop d s)) in
+        let r = left-of (items_in m' (drop d s)) in
         let k : size + length (area_bytes (left-of (items_in left (drop at s)))) ≡ size + (size_of i + length (area_bytes r)) = rw (kept t e f, length-area i r) in
         record { todo = t.rest; sized = omega (arith, x.sized, k, ap length (item-shifted steps t sm), length-item i) }
 
@@ -227,13 +240,13 @@ module _ (m : GainMode) (steps : ℤ) where
     pub wrote : Wrote out₀ 0 done o out
     pub long : length out ≡ length out₀
 
-  pub write-begin : (s : List ℕ) (count : ℕ) (out : List ℕ) → is_some (parse count s) ≡ true → Writing s count out out 0 count 0 0
-  write-begin s count out e =
-      record { todo = begin s count e; done = []; same = refl; counted = sym (zero-add _); wrote = start out 0 (omega arith); long = refl }
+  pub write-begin : (s : List ℕ) (count : ℕ) (out : List ℕ) → is_some (parse count s) ≡ true → (left : ℕ) → left ≡ count → Writing s count out out 0 left 0 0
+  write-begin s count out e left all =
+      rw all (record { todo = begin s count e; done = []; same = refl; counted = sym (zero-add _); wrote = start out 0 (omega arith); long = refl })
 
-  module _ {s : List ℕ} {count : ℕ} {out₀ out : List ℕ} {at left n o a b c d : ℕ} (x : Writing s count out₀ out at left n o) (t : Turn s at left a b c d) {y : Bool}
+  module _ {s : List ℕ} {count : ℕ} {out₀ out : List ℕ} {at left m' n o a b c d : ℕ} (x : Writing s count out₀ out at left n o) (t : Turn s at left m' a b c d) {y : Bool}
       (e : y ≡ goes m steps (part a b s) (part c d s)) where
-    pub write-drop : y ≡ true → Writing s count out₀ out d (left - 1) n o
+    pub write-drop : y ≡ true → Writing s count out₀ out d m' n o
     write-drop f =
         let q = gone t e f in
         record {
@@ -247,14 +260,14 @@ module _ (m : GainMode) (steps : ℤ) where
 
     -- the item stays
     module _ (f : y ≡ false) where
-      kept_same : area_bytes (left-of (items_in count s)) ≡ (x.done ++ item_bytes (shift_item steps t.item)) ++ area_bytes (left-of (items_in (left - 1) (drop d s)))
+      kept_same : area_bytes (left-of (items_in count s)) ≡ (x.done ++ item_bytes (shift_item steps t.item)) ++ area_bytes (left-of (items_in m' (drop d s)))
       unfolding area_bytes
       kept_same =
           x.same
           ∙ ap (λ (ts : List Item). x.done ++ area_bytes ts) (kept t e f)
-          ∙ sym (append_assoc x.done (item_bytes (shift_item steps t.item)) (area_bytes (left-of (items_in (left - 1) (drop d s)))))
+          ∙ sym (append_assoc x.done (item_bytes (shift_item steps t.item)) (area_bytes (left-of (items_in m' (drop d s)))))
 
-      kept-count : length (left-of (items_in count s)) ≡ n + 1 + length (left-of (items_in (left - 1) (drop d s)))
+      kept-count : length (left-of (items_in count s)) ≡ n + 1 + length (left-of (items_in m' (drop d s)))
       kept-count = x.counted ∙ ap (λ (ts : List Item). n + length ts) (kept t e f) ∙ omega arith
 
       -- one more can be counted
@@ -268,7 +281,7 @@ module _ (m : GainMode) (steps : ℤ) where
           omega (arith, k, r, ap length (item-shifted steps t sm), x.wrote.ends, x.long)
 
       pub write-keep : Small s → (o' : ℕ) (out' : List ℕ) → length out' ≡ length out → Wrote out₀ 0 (x.done ++ shifted_bytes steps s at b d) o' out'
-          → Writing s count out₀ out' d (left - 1) (n + 1) o'
+          → Writing s count out₀ out' d m' (n + 1) o'
       write-keep sm o' out' l w =
           record { todo = t.rest; done = x.done ++ item_bytes (shift_item steps t.item); same = kept_same; counted = kept-count; wrote = rw (item-shifted steps t sm) at w; long = l ∙ x.long }
 

@@ -1,7 +1,7 @@
 // The stored values of a lent item area after so many steps: the new area is written to the front of a lent output.
 #![tactic(auto)]
 
-ghost use Rattle.std.specs.Prelude.{◌≡◌, true, ◌≤◌, ◌<◌, ◌+◌, ◌-◌, min, length, leb};
+ghost use Rattle.std.specs.Prelude.{◌≡◌, true, ◌≤◌, ◌<◌, ◌+◌, ◌-◌, length, leb};
 ghost use Rattle.lists.specs.Choice.{is_some};
 ghost use Rattle.lists.specs.Write.{over, splice};
 ghost use Rattle.replies.specs.Limits.{file_limit};
@@ -10,9 +10,8 @@ ghost use Rattle.area_edit.specs.Edits.{answer, bytes};
 ghost use Rattle.calls.specs.Calls.{shift_stored_gain};
 ghost use Rattle.area_shift.specs.Shift as S;
 
-use area_edit::{Edited, Measure};
 use frame::{GainMode, GainSteps};
-use items::Stepped;
+use items::{Size, Stepped};
 use replies::Refusal;
 
 // Whether an item goes before the shift: under W a range of which a number leaves 0..255.
@@ -40,16 +39,12 @@ fn put_item(
     ensures { let new = S.shifted_bytes steps.0 area.now at stop end in
         (result ≡ o + length new) × (out.new ≡ splice out.old o new) }
 {
-    let key = at + 8;
-    let value = stop + 1;
-    let s = values::shift_stored_value(&area[key..stop], &area[value..end], steps);
-    if !s.moved {
+    let key = &area[at + 8..stop];
+    let value = &area[stop + 1..end];
+    let Some(text) = values::shift_stored_value(key, value, steps) else {
         return lists::put_part(out, o, area, at, end);
-    }
-    let text = s.text;
-    let n = text.len;
-    let bytes = text.bytes;
-    area_edit::put_changed(out, o, area, at, stop, &bytes[0..n])
+    };
+    area_edit::put_changed(out, o, area, at, stop, text.as_slice())
 }
 
 // Writes what the shift leaves of a well-formed area to the front of `out`.
@@ -59,32 +54,29 @@ pub fn write_shifted(
     steps: GainSteps,
     mode: GainMode,
     out: &mut [u8],
-) -> Measure
+) -> Size
     requires { (is_some (parse count area.now) ≡ true)
         × (length (area_bytes (shift_stored_gain mode steps.0 (items_in count area.now))) ≤ length out.old) }
     ensures { let ts = shift_stored_gain mode steps.0 (items_in count area.now) in
         (result.count ≡ length ts) × (result.length ≡ length (area_bytes ts)) × (out.new ≡ over (area_bytes ts) out.old) }
 {
     let mut at = 0;
-    let mut left = count;
     let mut n = 0;
     let mut o = 0;
-    while 0 < left {
-        let s = items::step(area, at);
+    for _ in 0..count {
         let Stepped::Item {
-            flags: _,
             key_start,
             key_end,
             value_start,
             value_end,
-        } = s
+            ..
+        } = items::step(area, at)
         else {
-            return Measure {
+            return Size {
                 count: 0,
                 length: 0,
             };
         };
-        left -= 1;
         if !goes(
             &area[key_start..key_end],
             &area[value_start..value_end],
@@ -96,7 +88,7 @@ pub fn write_shifted(
         }
         at = value_end;
     }
-    Measure {
+    Size {
         count: n,
         length: o,
     }
@@ -107,14 +99,12 @@ fn item_size(area: &[u8], at: usize, stop: usize, end: usize, steps: GainSteps) 
     requires { (at + 8 ≤ stop) × (stop < end) × (end ≤ length area.now) }
     ensures { (result ≡ length (S.shifted_bytes steps.0 area.now at stop end)) × (result ≤ end - at + 32) }
 {
-    let key = at + 8;
-    let value = stop + 1;
-    let s = values::shift_stored_value(&area[key..stop], &area[value..end], steps);
-    if !s.moved {
+    let key = &area[at + 8..stop];
+    let value = &area[stop + 1..end];
+    let Some(text) = values::shift_stored_value(key, value, steps) else {
         return end - at;
-    }
-    let text = s.text;
-    value - at + text.len
+    };
+    stop + 1 - at + text.len
 }
 
 // Whether what the shift leaves of a well-formed area has at most `limit` bytes. Stops at the item that passes it, so that no sum overflows.
@@ -128,21 +118,18 @@ fn fits_shifted(area: &[u8], count: usize, steps: GainSteps, mode: GainMode, lim
         }
     }
     let mut at = 0;
-    let mut left = count;
     let mut size = 0;
-    while 0 < left {
-        let s = items::step(area, at);
+    for _ in 0..count {
         let Stepped::Item {
-            flags: _,
             key_start,
             key_end: stop,
             value_start,
             value_end: end,
-        } = s
+            ..
+        } = items::step(area, at)
         else {
             return false;
         };
-        left -= 1;
         if !goes(&area[key_start..stop], &area[value_start..end], steps, mode) {
             size += item_size(area, at, stop, end, steps);
             if size > limit {
@@ -154,15 +141,6 @@ fn fits_shifted(area: &[u8], count: usize, steps: GainSteps, mode: GainMode, lim
     true
 }
 
-fn smaller(a: usize, b: usize) -> usize
-    ensures { result ≡ min a b }
-{
-    if a < b {
-        return a;
-    }
-    b
-}
-
 // The area after so many steps, each item by itself, also where a key comes twice: refusals 12, 2 and 5.
 pub fn shift_stored_gain(
     area: &[u8],
@@ -170,28 +148,19 @@ pub fn shift_stored_gain(
     steps: GainSteps,
     mode: GainMode,
     out: &mut [u8],
-) -> Edited
+) -> Result<Size, Refusal>
     ensures { let plan = S.shift_plan mode steps.0 count area.now (length out.old) in
         (result ≡ answer plan) × (out.new ≡ over (bytes plan) out.old) }
 {
     if !items::well_formed(area, count) {
-        return Edited::Refused(Refusal::MalformedArea);
+        return Err(Refusal::MalformedArea);
     }
     if !slip::is_step(steps.0) {
-        return Edited::Refused(Refusal::StepOutOfRange);
+        return Err(Refusal::StepOutOfRange);
     }
-    if !fits_shifted(
-        area,
-        count,
-        steps,
-        mode,
-        smaller(out.len(), replies::FILE_LIMIT),
-    ) {
-        return Edited::Refused(Refusal::NoRoom);
+    let limit = out.len().min(replies::FILE_LIMIT);
+    if !fits_shifted(area, count, steps, mode, limit) {
+        return Err(Refusal::NoRoom);
     }
-    let w = write_shifted(area, count, steps, mode, out);
-    Edited::Done {
-        count: w.count,
-        length: w.length,
-    }
+    Ok(write_shifted(area, count, steps, mode, out))
 }

@@ -9,37 +9,18 @@ ghost use Rattle.values.specs.Range.{format_range};
 ghost use Rattle.area_edit.specs.Edits.{answer, bytes, set_plan};
 ghost use Rattle.area_values.specs.Undo.{undo_gain_of};
 
-use area_edit::Edited;
-use items::Found;
+use items::Size;
 use replies::Refusal;
 
-// The stored undo steps of the left side.
-#[derive(Clone, Copy)]
-pub enum UndoGain {
-    Steps(i32),
-    Nothing,
-    Refused(Refusal),
-}
-
 // The left number of the first undo item, whether or not there is a second one.
-pub fn get_undo_gain(area: &[u8], count: usize) -> UndoGain
+pub fn get_undo_gain(area: &[u8], count: usize) -> Result<Option<i32>, Refusal>
     ensures { result ≡ undo_gain_of area.now count }
 {
-    let key = keys::TAG_MP3GAIN_UNDO;
-    let f = items::find(area, count, &key);
-    match f {
-        Found::Value {
-            start: _,
-            length: _,
-            repeated: _,
-        } => {
-            let text = items::value(area, f);
-            let undo = values::parse_undo_values(text);
-            UndoGain::Steps(undo.left)
-        }
-        Found::Nothing => UndoGain::Nothing,
-        Found::Refused(r) => UndoGain::Refused(r),
-    }
+    let Some(f) = items::find(area, count, &keys::TAG_MP3GAIN_UNDO)? else {
+        return Ok(None);
+    };
+    let text = items::part(area, f);
+    Ok(Some(values::parse_undo_values(text).left))
 }
 
 // The area with an undo text of these numbers and this flag.
@@ -50,25 +31,25 @@ pub fn set_undo_gain(
     right: i32,
     wrap: bool,
     out: &mut [u8],
-) -> Edited
+) -> Result<Size, Refusal>
     ensures { let plan = set_plan undo_key (format_undo left right wrap) count area.now (length out.old) in
         (result ≡ answer plan) × (out.new ≡ over (bytes plan) out.old) }
 {
-    let key = keys::TAG_MP3GAIN_UNDO;
     let text = values::format_undo_value(left, right, wrap);
-    let n = text.len;
-    let value = text.bytes;
-    area_edit::set(area, count, &key, &value[0..n], out)
+    area_edit::set(area, count, &keys::TAG_MP3GAIN_UNDO, text.as_slice(), out)
 }
 
 // The area with a range text of these gains.
-pub fn set_minmax(area: &[u8], count: usize, least: u8, greatest: u8, out: &mut [u8]) -> Edited
+pub fn set_minmax(
+    area: &[u8],
+    count: usize,
+    least: u8,
+    greatest: u8,
+    out: &mut [u8],
+) -> Result<Size, Refusal>
     ensures { let plan = set_plan minmax_key (format_range (record { least = least; greatest = greatest })) count area.now (length out.old) in
         (result ≡ answer plan) × (out.new ≡ over (bytes plan) out.old) }
 {
-    let key = keys::TAG_MP3GAIN_MINMAX;
     let text = values::format_minmax(least, greatest);
-    let n = text.len;
-    let value = text.bytes;
-    area_edit::set(area, count, &key, &value[0..n], out)
+    area_edit::set(area, count, &keys::TAG_MP3GAIN_MINMAX, text.as_slice(), out)
 }

@@ -3,7 +3,7 @@ use Prim.Native.Nat.{ℕ, ◌+◌, ◌-◌, ◌≤◌, ◌<◌}
 use native.Mathlib.Omega.{arith}
 use mathlib.Core.Path.{◌≡◌, refl, sym, ap, ◌∙◌}
 use mathlib.Core.Bool.{Bool, true, false, ◌||◌, and-false}
-use mathlib.Core.Option.{Option, none, some}
+use Rattle.std.specs.Prelude.{Option, None, Some}
 use mathlib.Core.List.{List, [], ◌∷◌, ◌++◌, append_assoc, append-nil}
 use lib.ListN.{length, take, drop, length-append}
 use lib.Seq.{drop-append_seam, take-append_seam, take_at, drop_at}
@@ -12,15 +12,12 @@ use Rattle.lists.specs.Bytes.{starts_with}
 use Rattle.lists.specs.Le.{read_u32}
 use Rattle.replies.specs.Limits.{count_limit}
 use Rattle.frame.specs.Tail.{preamble, id3v1_mark, stands_at, ends_with_id3v1, has_header, tag_start}
-use Rattle.frame.specs.declared.TagStart.TheVariants.{At as StartAt}
 use Rattle.frame.proofs.Tails.{stands-in, stands-before, start-there, start-headed}
 use Rattle.utf8.specs.Utf8.{valid}
 use Rattle.lossy.proofs.Laws.{lossy-valid}
 use Rattle.items.specs.Items.{Item, item_bytes, area_bytes, is_binary}
 use Rattle.items.proofs.Area.{AllSane, parse-area, head-item, length-item}
 use Rattle.ape.specs.Tag.{block_bytes, header_flags, footer_flags, tag_bytes, serialize, find_footer, version_at, size_at, count_at, area_at, read_value, read_items, read_tag, moved, split, file_of, replaced}
-use Rattle.ape.specs.declared.Footer.{Footer}
-use Rattle.ape.specs.declared.Footer.TheVariants.{At, Nowhere}
 use Rattle.ape.proofs.Files.{length-block}
 use Rattle.ape.proofs.Reading.{binary-value, text-value}
 use Rattle.ape.proofs.Tail.{at-seam}
@@ -39,11 +36,11 @@ past : (k : ℕ) (p pre e back : List ℕ) → k ≤ length back → stands_at k
 past k p pre e back h = sym (ap (stands_at k p) (append_assoc pre e back)) ∙ stands-in k p (pre ++ e) back h
 
 -- the footer found at its place
-find-tag : (pre back : List ℕ) (z n f : ℕ) → Back back → find_footer (pre ++ (block_bytes z n f ++ back)) ≡ At (length pre)
+find-tag : (pre back : List ℕ) (z n f : ℕ) → Back back → find_footer (pre ++ (block_bytes z n f ++ back)) ≡ Some (length pre)
 unfolding find_footer
 find-tag pre back z n f bare =
     rw (append-nil, stands-in 32 preamble pre (block_bytes z n f) (omega (arith, length-block z n f)), block-mark z n f)
-    (ap At (simp (length-append, length-block) (omega arith)))
+    (ap Some (simp (length-append, length-block) (omega arith)))
 find-tag pre back z n f (id3 {b} l t a) =
     let e : List ℕ = block_bytes z n f in
     let le : length (e ++ b) ≡ 160 = simp (length-append, length-block) (omega arith) in
@@ -56,11 +53,11 @@ find-tag pre back z n f (id3 {b} l t a) =
       stands-before 32 128 preamble e b (omega arith) l,
       block-mark z n f,
     )
-    (ap At (simp (length-append, length-block) (omega arith)))
+    (ap Some (simp (length-append, length-block) (omega arith)))
 
 -- no items: no footer
 find_none : (front back : List ℕ) → Back back → stands_at 32 preamble front ≡ false → (back ≡ [] → ends_with_id3v1 front ≡ false)
-    → find_footer (front ++ back) ≡ Nowhere
+    → find_footer (front ++ back) ≡ None
 unfolding find_footer
 find_none front back bare h g = rw (append-nil, h, g refl, and-false)
 find_none front back (id3 l t a) h g =
@@ -107,19 +104,19 @@ module _ (front back : List ℕ) (ts : List Item) where
   length-file : length file ≡ length front + size ts + 32 + length back
   length-file = rw (parts, length-append, length-append, length-block, length-pre) (omega arith)
 
-  found_at : Back back → find_footer file ≡ At (length front + size ts)
+  found_at : Back back → find_footer file ≡ Some (length front + size ts)
   found_at b = rw (parts, ← length-pre) (find-tag pre back (size ts) (length ts) footer_flags b)
 
   numbers : size ts < 4294967296 → length ts < 4294967296 → Numbers file (length front + size ts) (size ts) (length ts) footer_flags
   numbers hz hn = rw (parts, ← length-pre) (read-foot pre back (size ts) (length ts) footer_flags hz hn (omega arith))
 
   -- bit 31 is set, so the tag starts 32 bytes before its items
-  start-at : size ts < 4294967296 → length ts < 4294967296 → tag_start file (length front + size ts) ≡ StartAt (length front)
+  start-at : size ts < 4294967296 → length ts < 4294967296 → tag_start file (length front + size ts) ≡ Some (length front)
   start-at hz hn =
       let n = numbers hz hn in
       let f = length front + size ts in
       start-there file f (omega (arith, length-file))
-      ∙ rw (n.size_is, n.flags-are) (start-headed f (size ts) footer_flags (omega arith) (omega arith) (omega arith) ∙ ap StartAt (omega arith))
+      ∙ rw (n.size_is, n.flags-are) (start-headed f (size ts) footer_flags (omega arith) (omega arith) (omega arith) ∙ ap Some (omega arith))
 
   front-is : take (length front) file ≡ front
   unfolding file
@@ -152,9 +149,9 @@ module _ (front back : List ℕ) (ts : List Item) where
       rw (q, m.version-is, m.size_is, m.count-is, m.flags-are, n.size_is, n.count-is, eq-eqb (size ts) (size ts) refl, eq-eqb (length ts) (length ts) refl)
 
 -- where the footer of a book's file stands
-abbrev pub footer_of : List ℕ → List Item → Footer
-footer_of front [] = Nowhere
-footer_of front (t ∷ ts) = At (length front + size (t ∷ ts))
+abbrev pub footer_of : List ℕ → List Item → Option ℕ
+footer_of front [] = None
+footer_of front (t ∷ ts) = Some (length front + size (t ∷ ts))
 
 pub law-find : (front : List ℕ) (ts : List Item) (back : List ℕ) → Sound front ts back → find_footer (file_of front ts back) ≡ footer_of front ts
 unfolding file_of serialize file
@@ -199,7 +196,7 @@ law-replaced front ts back s new = rw (law-split front ts back s)
 
 -- ---- the gate
 
-gate-tag : (front back : List ℕ) (ts : List Item) → Back back → Good ts → gate_items (front ++ (tag_bytes ts ++ back)) ≡ some ts
+gate-tag : (front back : List ℕ) (ts : List Item) → Back back → Good ts → gate_items (front ++ (tag_bytes ts ++ back)) ≡ Some ts
 unfolding gate_items fit file
 gate-tag front back ts b ok =
     let hz : size ts < 4294967296 = omega (arith, ok.small) in
@@ -221,7 +218,7 @@ gate-tag front back ts b ok =
       ok.valid,
     )
 
-pub law-gate : (front : List ℕ) (ts : List Item) (back : List ℕ) → Sound front ts back → gate_items (file_of front ts back) ≡ some ts
+pub law-gate : (front : List ℕ) (ts : List Item) (back : List ℕ) → Sound front ts back → gate_items (file_of front ts back) ≡ Some ts
 unfolding gate_items file_of serialize
 law-gate front [] back s = rw (find_none front back s.behind s.no-footer s.no-id3)
 law-gate front (t ∷ ts) back s = gate-tag front back (t ∷ ts) s.behind s.good
@@ -230,7 +227,7 @@ law-gate front (t ∷ ts) back s = gate-tag front back (t ∷ ts) s.behind s.goo
 pub record Headed (s : List ℕ) (f : ℕ) : Type 0 where
   pub bit : has_header (read_u32 s (f + 20)) ≡ true
   pub start : ℕ
-  pub starts : tag_start s f ≡ StartAt start
+  pub starts : tag_start s f ≡ Some start
   pub header : header_at s f start ≡ true
 
 -- the footer of a sound book's file says so, and the writer put the header there
@@ -242,13 +239,13 @@ headed-tag front back ts ok =
     let n = numbers front back ts hz hn in
     record { bit = rw n.flags-are; start = length front; starts = start-at front back ts hz hn; header = header-at front back ts hz hn }
 
-pub law-header : (front : List ℕ) (ts : List Item) (back : List ℕ) (f : ℕ) → Sound front ts back → find_footer (file_of front ts back) ≡ At f → Headed (file_of front ts back) f
+pub law-header : (front : List ℕ) (ts : List Item) (back : List ℕ) (f : ℕ) → Sound front ts back → find_footer (file_of front ts back) ≡ Some f → Headed (file_of front ts back) f
 unfolding file_of serialize
 law-header front [] back f s e =
-    let x : Nowhere ≡ At f = sym (find_none front back s.behind s.no-footer s.no-id3) ∙ e in
+    let x : None ≡ Some f = sym (find_none front back s.behind s.no-footer s.no-id3) ∙ e in
     absurd (let z : ◌≡◌ {A = ℕ} 0 1 = cc in omega arith)
 law-header front (t ∷ ts) back f s e =
-    let x : At (length front + size (t ∷ ts)) ≡ At f = sym (law-find front (t ∷ ts) back s) ∙ e in
+    let x : Some (length front + size (t ∷ ts)) ≡ Some f = sym (law-find front (t ∷ ts) back s) ∙ e in
     let y : length front + size (t ∷ ts) ≡ f = cc in
     rw (← y) (headed-tag front back (t ∷ ts) s.good)
 
@@ -288,10 +285,10 @@ read-area (t ∷ ts) ok v h =
 
 -- what reading answers: no tag for no items, since the serializer writes nothing for them
 abbrev pub as_read : List Item → Option (List Item)
-as_read [] = none
-as_read (t ∷ ts) = some (t ∷ ts)
+as_read [] = None
+as_read (t ∷ ts) = Some (t ∷ ts)
 
-read-tag : (front back : List ℕ) (ts : List Item) → Back back → Good ts → read_tag (front ++ (tag_bytes ts ++ back)) ≡ some ts
+read-tag : (front back : List ℕ) (ts : List Item) → Back back → Good ts → read_tag (front ++ (tag_bytes ts ++ back)) ≡ Some ts
 unfolding read_tag file
 read-tag front back ts b ok =
     let hz : size ts < 4294967296 = omega (arith, ok.small) in

@@ -4,7 +4,7 @@ use native.Mathlib.Omega.{arith}
 use mathlib.Core.Path.{◌≡◌, refl, sym, ap, ◌∙◌}
 use mathlib.Core.Logic.{◌↔◌, ◌⊎◌, inl, inr}
 use mathlib.Core.Bool.{Bool, true, false, false≢true}
-use mathlib.Core.Option.{some}
+use Rattle.std.specs.Prelude.{Option, None, Some}
 use mathlib.Core.List.{List, [], ◌∷◌, ◌++◌}
 use lib.ListN.{length, take, drop, length-append, length-drop, length-take, take-append-drop}
 use lib.Seq.{length-take-le, drop-append-le, drop_at, drop-length}
@@ -15,15 +15,11 @@ use Rattle.lists.specs.Choice.{is_some}
 use Rattle.lists.specs.Le.{read_u32}
 use Rattle.lists.proofs.Same.{same_true, same_refl, starts-append}
 use Rattle.frame.specs.Tail.{preamble, id3v1_mark, stands_at, ends_with_id3v1, reach, start_of, tag_start}
-use Rattle.frame.specs.declared.TagStart.{TagStart}
-use Rattle.frame.specs.declared.TagStart.TheVariants.{At as StartAt, Nowhere as NoStart}
 use Rattle.frame.proofs.Tails.{stands-in, start-there}
 use Rattle.items.specs.Items.{Item, area_bytes, parse, items_in}
 use Rattle.items.proofs.Area.{AllSane, count-items, area-length}
 use Rattle.items.proofs.ItemLaws.{parse-keys, sane-both}
 use Rattle.ape.specs.Tag.{block_bytes, tag_bytes, serialize, find_footer, started, size_at, count_at, area_at, read_tag, Split, moved, split, file_of, replaced}
-use Rattle.ape.specs.declared.Footer.{Footer}
-use Rattle.ape.specs.declared.Footer.TheVariants.{At, Nowhere}
 use Rattle.ape.proofs.Files.{stands-long, footer-within}
 use Rattle.calls.specs.Gate.{all_valid, gate_items, passes_gate, items_of}
 use Rattle.book.specs.Book.{settled, Book, book_of, book_file}
@@ -79,9 +75,9 @@ moved-cut a b (inr (l, t)) = rw (move-id3 a b l) (record { behind = inr (l, t); 
 
 -- where a footer is found
 data Where (s : List ℕ) : Type 0 where
-  at-end : stands_at 32 preamble s ≡ true → find_footer s ≡ At (length s - 32) → Where s
-  before : stands_at 32 preamble s ≡ false → stands_at 160 preamble s ≡ true → ends_with_id3v1 s ≡ true → find_footer s ≡ At (length s - 160) → Where s
-  nowhere : stands_at 32 preamble s ≡ false → find_footer s ≡ Nowhere → Where s
+  at-end : stands_at 32 preamble s ≡ true → find_footer s ≡ Some (length s - 32) → Where s
+  before : stands_at 32 preamble s ≡ false → stands_at 160 preamble s ≡ true → ends_with_id3v1 s ≡ true → find_footer s ≡ Some (length s - 160) → Where s
+  nowhere : stands_at 32 preamble s ≡ false → find_footer s ≡ None → Where s
 
 where-is : (s : List ℕ) → Where s
 unfolding find_footer
@@ -106,24 +102,24 @@ rest-before s b =
     let d : length s - 160 + 32 ≡ length s - 128 = omega arith in
     rw d
 
-split-none : (s : List ℕ) → find_footer s ≡ Nowhere → split s ≡ moved s []
+split-none : (s : List ℕ) → find_footer s ≡ None → split s ≡ moved s []
 unfolding split
 split-none s e = rw e
 
-split-unstarted : (s : List ℕ) (f : ℕ) → find_footer s ≡ At f → tag_start s f ≡ NoStart → split s ≡ moved s []
+split-unstarted : (s : List ℕ) (f : ℕ) → find_footer s ≡ Some f → tag_start s f ≡ None → split s ≡ moved s []
 unfolding split
 split-unstarted s f e g = rw (e, g)
 
-split_started : (s : List ℕ) (f a : ℕ) → find_footer s ≡ At f → tag_start s f ≡ StartAt a → split s ≡ moved (take a s) (drop (f + 32) s)
+split_started : (s : List ℕ) (f a : ℕ) → find_footer s ≡ Some f → tag_start s f ≡ Some a → split s ≡ moved (take a s) (drop (f + 32) s)
 unfolding split
 split_started s f a e g = rw (e, g)
 
-split-footed : (s : List ℕ) (f : ℕ) → find_footer s ≡ At f → Behind (drop (f + 32) s) → Cut (split s)
+split-footed : (s : List ℕ) (f : ℕ) → find_footer s ≡ Some f → Behind (drop (f + 32) s) → Cut (split s)
 split-footed s f e b = go (tag_start s f) refl
   where
-    go : (t : TagStart) → tag_start s f ≡ t → Cut (split s)
-    go (StartAt a) q = rw (split_started s f a e q) (moved-cut (take a s) (drop (f + 32) s) b)
-    go NoStart q = rw (split-unstarted s f e q) (moved_none s)
+    go : (t : Option ℕ) → tag_start s f ≡ t → Cut (split s)
+    go (Some a) q = rw (split_started s f a e q) (moved-cut (take a s) (drop (f + 32) s) b)
+    go None q = rw (split-unstarted s f e q) (moved_none s)
 
 -- every file is cut so
 pub split-cut : (s : List ℕ) → Cut (split s)
@@ -157,7 +153,7 @@ module _ (s : List ℕ) (q : Quiet s) (ts : List Item) (g : Good ts) where
   unfolding replaced
   read-replaced = law-read _ ts _ (quiet-sound s q ts g)
 
-  pub gate-replaced : gate_items (replaced s ts) ≡ some ts
+  pub gate-replaced : gate_items (replaced s ts) ≡ Some ts
   unfolding replaced
   gate-replaced = law-gate _ ts _ (quiet-sound s q ts g)
 
@@ -180,15 +176,15 @@ module _ (s : List ℕ) (q : Quiet s) (ts : List Item) (g : Good ts) where
 -- what the gate needed of the footer at f
 record Gated (s : List ℕ) (f : ℕ) (ts : List Item) : Type 0 where
   start : ℕ
-  starts : tag_start s f ≡ StartAt start
+  starts : tag_start s f ≡ Some start
   room : start ≤ f
   good : Good ts
 
-start-of : (f size flags : ℕ) → started (start_of f size flags) false (λ n. true) ≡ true → 32 ≤ size → (a : ℕ) × (start_of f size flags ≡ StartAt a) × (a ≤ f)
+start-of : (f size flags : ℕ) → started (start_of f size flags) false (λ n. true) ≡ true → 32 ≤ size → (a : ℕ) × (start_of f size flags ≡ Some a) × (a ≤ f)
 unfolding start_of
 start-of f size flags e h = go (ltb (f + 32) (reach size flags)) refl
   where
-    go : (t : Bool) → ltb (f + 32) (reach size flags) ≡ t → (a : ℕ) × (start_of f size flags ≡ StartAt a) × (a ≤ f)
+    go : (t : Bool) → ltb (f + 32) (reach size flags) ≡ t → (a : ℕ) × (start_of f size flags ≡ Some a) × (a ≤ f)
     go true q = absurd (false≢true (rw q at e))
     go false q = (f + 32 - reach size flags, rw q, omega arith)
 
@@ -197,13 +193,13 @@ unfolding area_at
 area-long s f = rw length-take (omega arith)
 
 -- what was parsed, and is valid, can be written
-parsed : (n : ℕ) (s : List ℕ) (ts : List Item) → parse n s ≡ some ts → all_valid ts ≡ true → AllSane ts × (length ts ≡ n) × (length (area_bytes ts) ≡ length s)
+parsed : (n : ℕ) (s : List ℕ) (ts : List Item) → parse n s ≡ Some ts → all_valid ts ≡ true → AllSane ts × (length ts ≡ n) × (length (area_bytes ts) ≡ length s)
 parsed n s ts e v =
     let i : items_in n s ≡ ts = rw e in
     let k : is_some (parse n s) ≡ true = rw e in
     (sane-both ts (rw (← i) (parse-keys n s)) (valid-flags ts v), rw (← i) (count-items n s k), rw (← i) (area-length n s k))
 
-gated : (s : List ℕ) (f : ℕ) → find_footer s ≡ At f → passes_gate s ≡ true → Gated s f (items_of s)
+gated : (s : List ℕ) (f : ℕ) → find_footer s ≡ Some f → passes_gate s ≡ true → Gated s f (items_of s)
 gated s f e g =
     let (c, p, v) = gate-footer s f e g in
     let t = fit-tests s f c in
@@ -222,16 +218,16 @@ unfolding area_bytes all_valid
 nothing = record { sane = tt; valid = refl; few = omega arith; small = omega arith }
 
 -- the items of a file that the gate passes can be written
-gate-nothing : (s : List ℕ) → find_footer s ≡ Nowhere → items_of s ≡ []
+gate-nothing : (s : List ℕ) → find_footer s ≡ None → items_of s ≡ []
 unfolding items_of gate_items
 gate-nothing s e = rw e
 
 pub gate-good : (s : List ℕ) → passes_gate s ≡ true → Good (items_of s)
 gate-good s e = go (find_footer s) refl
   where
-    go : (x : Footer) → find_footer s ≡ x → Good (items_of s)
-    go Nowhere q = rw (gate-nothing s q) nothing
-    go (At f) q = (gated s f q e).good
+    go : (x : Option ℕ) → find_footer s ≡ x → Good (items_of s)
+    go None q = rw (gate-nothing s q) nothing
+    go (Some f) q = (gated s f q e).good
 
 -- replacing by a file's own items twice is replacing once
 pub replaced-twice : (s : List ℕ) → Quiet s → passes_gate s ≡ true
@@ -356,7 +352,7 @@ settled-exactly s = (
 )
 
 -- a settled file with a footer has bit 31 set and the header that the gate then asks for, as the writer put it there
-pub settled-headed : (s : List ℕ) (f : ℕ) → settled s ≡ true → find_footer s ≡ At f → Headed s f
+pub settled-headed : (s : List ℕ) (f : ℕ) → settled s ≡ true → find_footer s ≡ Some f → Headed s f
 unfolding book_file
 settled-headed s f e g = go ((settled-exactly s).0 e)
   where

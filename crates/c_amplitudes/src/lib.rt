@@ -5,16 +5,7 @@ ghost use Rattle.std.specs.Prelude.{◌≡◌};
 ghost use Rattle.amplitudes.specs.Amplitude.{amplitudes_plan};
 ghost use Rattle.c_amplitudes.specs.AmplitudesFace.{amplitudes_face};
 
-use amplitudes::{Amplified, Amplitudes};
 use frame::GainSteps;
-
-// Hands out a pair of amplitudes.
-fn hand_out(pair: Amplitudes, left: &mut f64, right: &mut f64)
-    ensures { (left.new ≡ pair.left) × (right.new ≡ pair.right) }
-{
-    *left = pair.left;
-    *right = pair.right;
-}
 
 // The amplitudes of the steps of either side. Refusal 2.
 #[unsafe(no_mangle)]
@@ -27,12 +18,12 @@ pub extern "C" fn zib_amplitudes(
     ensures { let face = amplitudes_face (amplitudes_plan left_steps right_steps) left.old right.old in
         (result ≡ face.reply) × (left.new ≡ face.left) × (right.new ≡ face.right) }
 {
-    let a = amplitudes::to_amplitudes(GainSteps(left_steps), GainSteps(right_steps));
-    match a {
-        Amplified::Done(pair) => {
-            hand_out(pair, left, right);
+    match amplitudes::to_amplitudes(GainSteps(left_steps), GainSteps(right_steps)) {
+        Ok(pair) => {
+            *left = pair.left;
+            *right = pair.right;
             0
         }
-        Amplified::Refused(r) => replies::number(r),
+        Err(r) => replies::number(r),
     }
 }

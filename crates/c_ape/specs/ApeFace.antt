@@ -1,13 +1,10 @@
 -- What the faces of crates ape, ape_write and ape_replace answer and leave in their lent numbers. A refusal leaves them.
+use Rattle.std.specs.Prelude.{Option, None, Some, Result, Ok, Err}
 use Rattle.std.specs.Prelude.{ℕ}
 use Rattle.replies.specs.Refusal.{number_of, Plan, no, yes}
-use Rattle.ape.specs.declared.FooterFound.{FooterFound}
-use Rattle.ape.specs.declared.FooterFound.TheVariants.{At, Nowhere, Refused as NotSearched}
-use Rattle.ape.specs.declared.TagRead.{TagRead}
-use Rattle.ape.specs.declared.TagRead.TheVariants.{NoTag, Items, Refused as NotRead}
+use Rattle.items.specs.declared.Size.{Size}
 use Rattle.ape_replace.specs.declared.Cut.{Cut}
-use Rattle.ape_write.specs.declared.Written.{Written}
-use Rattle.ape_write.specs.declared.Written.TheVariants.{Done, Refused}
+use Rattle.replies.specs.declared.Refusal.{Refusal}
 
 -- a search: the reply, whether a footer is there, and its place
 pub record FooterFace : Type 0 where
@@ -16,10 +13,10 @@ pub record FooterFace : Type 0 where
   pub footer : ℕ
 
 -- from the answer of the search, and what the lent numbers held
-abbrev pub footer_face : FooterFound → ℕ → ℕ → FooterFace
-footer_face (At f) there footer = record { reply = 0; there = 1; footer = f }
-footer_face Nowhere there footer = record { reply = 0; there = 0; footer = 0 }
-footer_face (NotSearched r) there footer = record { reply = number_of r; there = there; footer = footer }
+abbrev pub footer_face : Result (Option ℕ) Refusal → ℕ → ℕ → FooterFace
+footer_face (Ok (Some f)) there footer = record { reply = 0; there = 1; footer = f }
+footer_face (Ok None) there footer = record { reply = 0; there = 0; footer = 0 }
+footer_face (Err r) there footer = record { reply = number_of r; there = there; footer = footer }
 
 -- a reading: the reply, whether a tag is there, how many items it has, and how long their area is
 pub record ReadFace : Type 0 where
@@ -29,20 +26,20 @@ pub record ReadFace : Type 0 where
   pub written : ℕ
 
 -- from the answer of the reading, and what the lent numbers held
-abbrev pub read_face : TagRead → ℕ → ℕ → ℕ → ReadFace
-read_face NoTag there count written = record { reply = 0; there = 0; count = 0; written = 0 }
-read_face (Items n m) there count written = record { reply = 0; there = 1; count = n; written = m }
-read_face (NotRead r) there count written = record { reply = number_of r; there = there; count = count; written = written }
+abbrev pub read_face : Result (Option Size) Refusal → ℕ → ℕ → ℕ → ReadFace
+read_face (Ok None) there count written = record { reply = 0; there = 0; count = 0; written = 0 }
+read_face (Ok (Some z)) there count written = record { reply = 0; there = 1; count = z.count; written = z.length }
+read_face (Err r) there count written = record { reply = number_of r; there = there; count = count; written = written }
 
--- a call that writes: the reply, and how many bytes
+-- a call that answers a length: the reply, and how many bytes
 pub record WrittenFace : Type 0 where
   pub reply : ℕ
   pub written : ℕ
 
 -- from the answer of the call, and what the lent number held
-abbrev pub written_face : Written → ℕ → WrittenFace
-written_face (Done n) old = record { reply = 0; written = n }
-written_face (Refused r) old = record { reply = number_of r; written = old }
+abbrev pub written_face : Result ℕ Refusal → ℕ → WrittenFace
+written_face (Ok n) old = record { reply = 0; written = n }
+written_face (Err r) old = record { reply = number_of r; written = old }
 
 -- a split: the reply, and where the file is cut
 pub record SplitFace : Type 0 where

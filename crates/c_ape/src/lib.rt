@@ -8,9 +8,8 @@ ghost use Rattle.ape_write.specs.Answers.{serialize_plan, written_answer, writte
 ghost use Rattle.ape_replace.specs.Answers.{split_plan, tag_plan, replace_plan};
 ghost use Rattle.c_ape.specs.ApeFace.{footer_face, read_face, written_face, split_face};
 
-use ape::{FooterFound, TagRead};
 use ape_replace::Cut;
-use ape_write::Written;
+use items::Size;
 use replies::Refusal;
 
 // Where the footer of the file's tag stands: `there` is 1 and `footer` its place, or both are 0. Refusal 1.
@@ -19,19 +18,45 @@ pub fn zib_find_ape_footer(file: &[u8], there: &mut u32, footer: &mut usize) -> 
         let face = footer_face found there.old footer.old in
         (result ≡ face.reply) × (there.new ≡ face.there) × (footer.new ≡ face.footer) }
 {
-    let f = ape::find_ape_footer(file);
-    match f {
-        FooterFound::At(at) => {
+    match ape::find_ape_footer(file) {
+        Ok(Some(at)) => {
             *there = 1;
             *footer = at;
             0
         }
-        FooterFound::Nowhere => {
+        Ok(None) => {
             *there = 0;
             *footer = 0;
             0
         }
-        FooterFound::Refused(r) => replies::number(r),
+        Err(r) => replies::number(r),
+    }
+}
+
+// The reply to a reading, and into the lent numbers whether a tag is there, the count of its items and the length of their area.
+pub fn put_read(
+    read: Result<Option<Size>, Refusal>,
+    there: &mut u32,
+    count: &mut usize,
+    written: &mut usize,
+) -> u32
+    ensures { let face = read_face read there.old count.old written.old in
+        (result ≡ face.reply) × (there.new ≡ face.there) × (count.new ≡ face.count) × (written.new ≡ face.written) }
+{
+    match read {
+        Ok(None) => {
+            *there = 0;
+            *count = 0;
+            *written = 0;
+            0
+        }
+        Ok(Some(size)) => {
+            *there = 1;
+            *count = size.count;
+            *written = size.length;
+            0
+        }
+        Err(r) => replies::number(r),
     }
 }
 
@@ -49,37 +74,19 @@ pub fn zib_read_ape_tag(
         (result ≡ face.reply) × (there.new ≡ face.there) × (count.new ≡ face.count) × (written.new ≡ face.written)
         × (area.new ≡ over (read_bytes plan) area.old) }
 {
-    let t = ape::read_ape_tag(file, area);
-    match t {
-        TagRead::NoTag => {
-            *there = 0;
-            *count = 0;
-            *written = 0;
-            0
-        }
-        TagRead::Items {
-            count: n,
-            length: m,
-        } => {
-            *there = 1;
-            *count = n;
-            *written = m;
-            0
-        }
-        TagRead::Refused(r) => replies::number(r),
-    }
+    put_read(ape::read_ape_tag(file, area), there, count, written)
 }
 
 // The reply to a call that writes, and how many bytes it wrote into the lent number.
-pub fn put_written(w: Written, written: &mut usize) -> u32
+pub fn put_written(w: Result<usize, Refusal>, written: &mut usize) -> u32
     ensures { let face = written_face w written.old in (result ≡ face.reply) × (written.new ≡ face.written) }
 {
     match w {
-        Written::Done(n) => {
+        Ok(n) => {
             *written = n;
             0
         }
-        Written::Refused(r) => replies::number(r),
+        Err(r) => replies::number(r),
     }
 }
 
@@ -92,6 +99,15 @@ pub fn zib_serialize_ape_tag(area: &[u8], count: usize, out: &mut [u8], written:
     put_written(ape_write::serialize_ape_tag(area, count, out), written)
 }
 
+// Hands out where a file is cut.
+fn hand_out(cut: Cut, front: &mut usize, from: &mut usize, to: &mut usize)
+    ensures { (front.new ≡ cut.front) × (from.new ≡ cut.from) × (to.new ≡ cut.to) }
+{
+    *front = cut.front;
+    *from = cut.from;
+    *to = cut.to;
+}
+
 // Where the file is cut: what precedes its tag ends at `front`, and what follows it stands between `from` and `to`. Without a tag, the
 // same of the place where one would be put. Refusal 1.
 pub fn zib_split_ape_tag(file: &[u8], front: &mut usize, from: &mut usize, to: &mut usize) -> u32
@@ -101,23 +117,8 @@ pub fn zib_split_ape_tag(file: &[u8], front: &mut usize, from: &mut usize, to: &
     if replies::FILE_LIMIT < file.len() {
         return replies::number(Refusal::FileTooLong);
     }
-    let cut = ape_replace::split_ape_tag(file);
-    let a = cut.front;
-    let b = cut.from;
-    let c = cut.to;
-    *front = a;
-    *from = b;
-    *to = c;
+    hand_out(ape_replace::split_ape_tag(file), front, from, to);
     0
-}
-
-// Hands out where a file is cut.
-fn hand_out(cut: Cut, front: &mut usize, from: &mut usize, to: &mut usize)
-    ensures { (front.new ≡ cut.front) × (from.new ≡ cut.from) × (to.new ≡ cut.to) }
-{
-    *front = cut.front;
-    *from = cut.from;
-    *to = cut.to;
 }
 
 // `zib_split_ape_tag`, by the name that says what it is for: the two parts of the file that stay when its tag is replaced. Refusal 1.

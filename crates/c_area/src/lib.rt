@@ -13,23 +13,21 @@ ghost use Rattle.area_drop.specs.Drops.{remove_plan, drop_plan};
 ghost use Rattle.area_gains.specs.Gains.{set_gains_plan};
 ghost use Rattle.c_area.specs.AreaFace.{edited_face};
 
-use area_edit::Edited;
+use items::Size;
+use replies::Refusal;
 
 // The reply to an edit, and its counts into the lent numbers.
-fn edited(e: Edited, items: &mut usize, written: &mut usize) -> u32
-    ensures { let face = edited_face e items.old written.old in
+pub fn put_edited(answer: Result<Size, Refusal>, items: &mut usize, written: &mut usize) -> u32
+    ensures { let face = edited_face answer items.old written.old in
         (result ≡ face.reply) × (items.new ≡ face.items) × (written.new ≡ face.written) }
 {
-    match e {
-        Edited::Done {
-            count: n,
-            length: m,
-        } => {
-            *items = n;
-            *written = m;
+    match answer {
+        Ok(size) => {
+            *items = size.count;
+            *written = size.length;
             0
         }
-        Edited::Refused(r) => replies::number(r),
+        Err(r) => replies::number(r),
     }
 }
 
@@ -48,8 +46,7 @@ pub fn zib_set(
         (result ≡ face.reply) × (items.new ≡ face.items) × (written.new ≡ face.written)
         × (out.new ≡ over (bytes plan) out.old) }
 {
-    let e = area_edit::set(area, count, key, value, out);
-    edited(e, items, written)
+    put_edited(area_edit::set(area, count, key, value, out), items, written)
 }
 
 // The area without the items that have this key. Refusals 12, 3 and 5.
@@ -66,8 +63,7 @@ pub fn zib_remove(
         (result ≡ face.reply) × (items.new ≡ face.items) × (written.new ≡ face.written)
         × (out.new ≡ over (bytes plan) out.old) }
 {
-    let e = area_drop::remove(area, count, key, out);
-    edited(e, items, written)
+    put_edited(area_drop::remove(area, count, key, out), items, written)
 }
 
 // The area without REPLAYGAIN_KEYS. Refusals 12 and 5.
@@ -83,8 +79,11 @@ pub fn zib_remove_replaygain(
         (result ≡ face.reply) × (items.new ≡ face.items) × (written.new ≡ face.written)
         × (out.new ≡ over (bytes plan) out.old) }
 {
-    let e = area_drop::remove_replaygain(area, count, out);
-    edited(e, items, written)
+    put_edited(
+        area_drop::remove_replaygain(area, count, out),
+        items,
+        written,
+    )
 }
 
 // The area without UNDONE_KEYS. Refusals 12 and 5.
@@ -100,7 +99,7 @@ pub fn zib_drop_undone(
         (result ≡ face.reply) × (items.new ≡ face.items) × (written.new ≡ face.written)
         × (out.new ≡ over (bytes plan) out.old) }
 {
-    edited(area_drop::drop_undone(area, count, out), items, written)
+    put_edited(area_drop::drop_undone(area, count, out), items, written)
 }
 
 // The area without the eight keys of mp3gain. Refusals 12 and 5.
@@ -116,7 +115,7 @@ pub fn zib_take_mp3gain(
         (result ≡ face.reply) × (items.new ≡ face.items) × (written.new ≡ face.written)
         × (out.new ≡ over (bytes plan) out.old) }
 {
-    edited(area_drop::take_mp3gain(area, count, out), items, written)
+    put_edited(area_drop::take_mp3gain(area, count, out), items, written)
 }
 
 // The area with an undo text of these numbers and this flag. Refusals 12 and 5.
@@ -135,8 +134,11 @@ pub fn zib_set_undo_gain(
         (result ≡ face.reply) × (items.new ≡ face.items) × (written.new ≡ face.written)
         × (out.new ≡ over (bytes plan) out.old) }
 {
-    let e = area_values::set_undo_gain(area, count, left, right, wrap, out);
-    edited(e, items, written)
+    put_edited(
+        area_values::set_undo_gain(area, count, left, right, wrap, out),
+        items,
+        written,
+    )
 }
 
 // The area with a range text of these gains. Refusals 12 and 5.
@@ -154,8 +156,11 @@ pub fn zib_set_minmax(
         (result ≡ face.reply) × (items.new ≡ face.items) × (written.new ≡ face.written)
         × (out.new ≡ over (bytes plan) out.old) }
 {
-    let e = area_values::set_minmax(area, count, least, greatest, out);
-    edited(e, items, written)
+    put_edited(
+        area_values::set_minmax(area, count, least, greatest, out),
+        items,
+        written,
+    )
 }
 
 // The area with each of the texts that is not empty at its REPLAYGAIN key. Refusals 12, 4 and 5.
@@ -177,8 +182,11 @@ pub fn zib_set_replaygain<'a>(
         (result ≡ face.reply) × (items.new ≡ face.items) × (written.new ≡ face.written)
         × (out.new ≡ over (bytes plan) out.old) }
 {
-    let e = area_gains::set_replaygain(
-        area, count, track_gain, track_peak, album_gain, album_peak, algorithm, out,
-    );
-    edited(e, items, written)
+    put_edited(
+        area_gains::set_replaygain(
+            area, count, track_gain, track_peak, album_gain, album_peak, algorithm, out,
+        ),
+        items,
+        written,
+    )
 }

@@ -9,7 +9,6 @@ ghost use Rattle.gate.specs.Gate.{gate_plan};
 ghost use Rattle.c_ape.specs.ApeFace.{written_face};
 ghost use Rattle.c_edit.specs.EditFace.{gate_face};
 
-use gate::Editable;
 use replies::Refusal;
 
 // Where the items of a file stand that is fit for editing, and how many there are: all three numbers are 0 where it has no tag. Refusals
@@ -27,19 +26,15 @@ pub extern "C" fn zib_gate(
     if replies::FILE_LIMIT < file.len() {
         return replies::number(Refusal::FileTooLong);
     }
-    let g = gate::gate(file);
-    let Editable::Items {
-        start: a,
-        end: b,
-        count: n,
-    } = g
-    else {
-        return replies::number(Refusal::NotEditable);
-    };
-    *start = a;
-    *end = b;
-    *count = n;
-    0
+    match gate::gate(file) {
+        Ok(place) => {
+            *start = place.start;
+            *end = place.end;
+            *count = place.count;
+            0
+        }
+        Err(r) => replies::number(r),
+    }
 }
 
 // The file with this value at the first item with this key, or with one more item, written to the front of `out`, and its length into

@@ -1,6 +1,6 @@
 -- What the faces of crate fixed_ranges answer and leave in their lent numbers.
 use Rattle.std.specs.Prelude.{ℕ, Bool, true, false}
-use Rattle.std.proofs.Math.Option.{Option, none, some}
+use Rattle.std.specs.Prelude.{Option, None, Some}
 use Rattle.fixed_ranges.specs.declared.FixedRange.{FixedRange}
 use Rattle.fixed_ranges.specs.declared.Views.{Views}
 use Rattle.fixed_ranges.specs.declared.Views.TheVariants.{Agree, Differ, OnlyOurs, OnlyFixed, Neither}
@@ -13,8 +13,8 @@ pub record Fixed : Type 0 where
 
 -- from the fixed view, and what the lent numbers held: where it reads nothing they stay
 abbrev pub fixed_face : Option FixedRange → ℕ → ℕ → Fixed
-fixed_face none first second = record { there = false; first = first; second = second }
-fixed_face (some v) first second = record { there = true; first = v.first; second = v.second }
+fixed_face None first second = record { there = false; first = first; second = second }
+fixed_face (Some v) first second = record { there = true; first = v.first; second = v.second }
 
 -- the five answers as numbers
 abbrev pub views_number : Views → ℕ

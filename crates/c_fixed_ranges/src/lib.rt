@@ -5,7 +5,7 @@ ghost use Rattle.std.specs.Prelude.{◌≡◌};
 ghost use Rattle.fixed_ranges.specs.Fixed.{fixed, views};
 ghost use Rattle.c_fixed_ranges.specs.FixedFace.{fixed_face, views_number};
 
-use fixed_ranges::{FixedField, Views};
+use fixed_ranges::Views;
 
 // Reads a range at its fixed places: answers whether both numbers stand there.
 #[unsafe(no_mangle)]
@@ -13,16 +13,13 @@ pub extern "C" fn zib_fixed_range(text: &[u8], first: &mut u32, second: &mut u32
     ensures { let face = fixed_face (fixed text.now) first.old second.old in
         (result ≡ face.there) × (first.new ≡ face.first) × (second.new ≡ face.second) }
 {
-    let f = fixed_ranges::fixed_range(text);
-    match f {
-        FixedField::Value(range) => {
-            let a = range.first;
-            let b = range.second;
-            *first = a;
-            *second = b;
+    match fixed_ranges::fixed_range(text) {
+        Some(range) => {
+            *first = range.first;
+            *second = range.second;
             true
         }
-        FixedField::Nothing => false,
+        None => false,
     }
 }
 

@@ -1,12 +1,10 @@
 -- What the faces of crate frame answer and leave in their lent numbers.
-use Rattle.std.specs.Prelude.{ℕ, ◌+◌, Bool, true, false, cond, List, length, leb}
+use Rattle.std.specs.Prelude.{ℕ, ◌+◌, Bool, true, false, cond, List, length, leb, Option, None, Some}
 use Rattle.lists.specs.Le.{read_u32}
 use Rattle.replies.specs.Limits.{file_limit}
 use Rattle.replies.specs.Refusal.{number_of}
 use Rattle.replies.specs.declared.Refusal.TheVariants.{FileTooLong}
 use Rattle.frame.specs.Tail.{tag_start, sound_end}
-use Rattle.frame.specs.declared.TagStart.{TagStart}
-use Rattle.frame.specs.declared.TagStart.TheVariants.{At, Nowhere}
 
 -- is a whole number there, and which; where none is, the lent number stays
 pub record Read : Type 0 where
@@ -24,9 +22,9 @@ pub record Start : Type 0 where
   pub start : ℕ
 
 -- from the answer of the search: no start leaves zeros
-abbrev pub answered : TagStart → Start
-answered (At n) = record { reply = 0; there = 1; start = n }
-answered Nowhere = record { reply = 0; there = 0; start = 0 }
+abbrev pub answered : Option ℕ → Start
+answered (Some n) = record { reply = 0; there = 1; start = n }
+answered None = record { reply = 0; there = 0; start = 0 }
 
 -- refusal 1 leaves the lent numbers
 abbrev pub start_face : List ℕ → ℕ → ℕ → ℕ → Start

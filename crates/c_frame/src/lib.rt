@@ -6,7 +6,8 @@ ghost use Rattle.frame.specs.Tail.{ends_with_id3v1};
 ghost use Rattle.frame.specs.Gain.{mode_of, adjust};
 ghost use Rattle.c_frame.specs.FrameFace.{read, start_face, end_face};
 
-use frame::{GainMode, GainSteps, TagStart};
+use frame::{GainMode, GainSteps};
+use replies::Refusal;
 
 // The number of four bytes, the least first, that stands in `bytes` from `at`: answers whether four bytes stand there.
 #[unsafe(no_mangle)]
@@ -14,10 +15,7 @@ pub extern "C" fn zib_read_u32_le(bytes: &[u8], at: usize, value: &mut u32) -> b
     ensures { (result ≡ (read bytes.now at value.old).there)
         × (value.new ≡ (read bytes.now at value.old).value) }
 {
-    if bytes.len() < 4 {
-        return false;
-    }
-    if bytes.len() - 4 < at {
+    if bytes.len() < 4 || bytes.len() - 4 < at {
         return false;
     }
     *value = frame::read_u32_le(bytes, at);
@@ -44,21 +42,12 @@ pub extern "C" fn zib_ape_tag_start(
         (result ≡ face.reply) × (there.new ≡ face.there) × (start.new ≡ face.start) }
 {
     if replies::FILE_LIMIT < file.len() {
-        return 1;
+        return replies::number(Refusal::FileTooLong);
     }
-    let s = frame::ape_tag_start(file, footer);
-    match s {
-        TagStart::At(at) => {
-            *there = 1;
-            *start = at;
-            0
-        }
-        TagStart::Nowhere => {
-            *there = 0;
-            *start = 0;
-            0
-        }
-    }
+    let place = frame::ape_tag_start(file, footer);
+    *there = u32::from(place.is_some());
+    *start = place.unwrap_or(0);
+    0
 }
 
 // Where the sound of a file ends: before its ID3v1 block, if it has one, and before the tag that stands there. Refusal 1.
@@ -67,7 +56,7 @@ pub extern "C" fn zib_find_audio_end(file: &[u8], end: &mut usize) -> u32
     ensures { let face = end_face file.now end.old in (result ≡ face.reply) × (end.new ≡ face.end) }
 {
     if replies::FILE_LIMIT < file.len() {
-        return 1;
+        return replies::number(Refusal::FileTooLong);
     }
     *end = frame::find_audio_end(file);
     0

@@ -1,20 +1,11 @@
 -- What the faces that read a key or an area answer and leave in their lent numbers. A refusal leaves them.
-use Rattle.std.specs.Prelude.{ℕ, Bool, true, false, ℤ, pos}
+use Rattle.std.specs.Prelude.{ℕ, Bool, true, false, ℤ, pos, Option, None, Some, Result, Ok, Err}
 use Rattle.replies.specs.Refusal.{number_of}
+use Rattle.replies.specs.declared.Refusal.{Refusal}
 use Rattle.replies.specs.declared.Refusal.TheVariants.{MalformedArea}
-use Rattle.keys.specs.declared.Which.{Which}
-use Rattle.keys.specs.declared.Which.TheVariants.{Key, Other}
 use Rattle.items.specs.declared.Stepped.{Stepped}
 use Rattle.items.specs.declared.Stepped.TheVariants.{Item, End, Malformed}
 use Rattle.items.specs.declared.Found.{Found}
-use Rattle.items.specs.declared.Found.TheVariants.{Value, Nothing, Refused as NotFound}
-use Rattle.area_values.specs.declared.UndoGain.{UndoGain}
-use Rattle.area_values.specs.declared.UndoGain.TheVariants.{Steps, Nothing as NoSteps, Refused as NoGain}
-
--- one of the eight keys by its place, and 8 for none of them
-abbrev pub place_face : Which → ℕ
-place_face (Key i) = i
-place_face Other = 8
 
 -- a step: the reply, whether an item is there, its flags, and where its key and its value start and end
 pub record ItemFace : Type 0 where
@@ -47,10 +38,10 @@ one_if true = 1
 one_if false = 0
 
 -- from the answer of get, and what the lent numbers held
-abbrev pub found_face : Found → ℕ → ℕ → ℕ → ℕ → FoundFace
-found_face (Value at n g) there start size repeated = record { reply = 0; there = 1; start = at; size = n; repeated = one_if g }
-found_face Nothing there start size repeated = record { reply = 0; there = 0; start = 0; size = 0; repeated = 0 }
-found_face (NotFound r) there start size repeated = record { reply = number_of r; there = there; start = start; size = size; repeated = repeated }
+abbrev pub found_face : Result (Option Found) Refusal → ℕ → ℕ → ℕ → ℕ → FoundFace
+found_face (Ok (Some f)) there start size repeated = record { reply = 0; there = 1; start = f.start; size = f.length; repeated = one_if f.repeated }
+found_face (Ok None) there start size repeated = record { reply = 0; there = 0; start = 0; size = 0; repeated = 0 }
+found_face (Err r) there start size repeated = record { reply = number_of r; there = there; start = start; size = size; repeated = repeated }
 
 -- the undo steps: the reply, whether they are there, and the number
 pub record GainFace : Type 0 where
@@ -59,7 +50,7 @@ pub record GainFace : Type 0 where
   pub steps : ℤ
 
 -- from the answer about the undo steps, and what the lent numbers held
-abbrev pub gain_face : UndoGain → ℕ → ℤ → GainFace
-gain_face (Steps n) there steps = record { reply = 0; there = 1; steps = n }
-gain_face NoSteps there steps = record { reply = 0; there = 0; steps = pos 0 }
-gain_face (NoGain r) there steps = record { reply = number_of r; there = there; steps = steps }
+abbrev pub gain_face : Result (Option ℤ) Refusal → ℕ → ℤ → GainFace
+gain_face (Ok (Some n)) there steps = record { reply = 0; there = 1; steps = n }
+gain_face (Ok None) there steps = record { reply = 0; there = 0; steps = pos 0 }
+gain_face (Err r) there steps = record { reply = number_of r; there = there; steps = steps }

@@ -1,15 +1,13 @@
 // The faces of crates keys, items and area_values that read: a key looked at, an item of an area found, the undo number got.
 #![tactic(auto)]
 
-ghost use Rattle.std.specs.Prelude.{◌≡◌};
-ghost use Rattle.keys.specs.Keys.{is_key, which_key, which_is};
+ghost use Rattle.std.specs.Prelude.{◌≡◌, unwrap_or};
+ghost use Rattle.keys.specs.Keys.{is_key, which_key};
 ghost use Rattle.items.specs.Answers.{step_of, find_of};
 ghost use Rattle.area_values.specs.Undo.{undo_gain_of};
-ghost use Rattle.c_items.specs.ItemsFace.{place_face, item_face, found_face, gain_face, one_if};
+ghost use Rattle.c_items.specs.ItemsFace.{item_face, found_face, gain_face};
 
-use area_values::UndoGain;
 use items::{Found, Stepped};
-use keys::Which;
 use replies::Refusal;
 
 // Whether refusal 3 lets the key pass.
@@ -23,13 +21,9 @@ pub extern "C" fn zib_is_key(key: &[u8]) -> bool
 // Which of the eight keys of mp3gain it is, in any letter case: its place, or 8 for none of them.
 #[unsafe(no_mangle)]
 pub extern "C" fn zib_which_key(key: &[u8]) -> usize
-    ensures { result ≡ place_face (which_is (which_key key.now)) }
+    ensures { result ≡ unwrap_or (which_key key.now) 8 }
 {
-    let w = keys::which_key(key);
-    match w {
-        Which::Key(i) => i,
-        Which::Other => 8,
-    }
+    keys::which_key(key).unwrap_or(8)
 }
 
 // The item that begins at this place of the area: `there` is 1, with its flags and where its key and its value start and end, or all six are 0
@@ -50,8 +44,7 @@ pub extern "C" fn zib_item_at(
         (result ≡ face.reply) × (there.new ≡ face.there) × (flags.new ≡ face.flags) × (key_start.new ≡ face.key_start)
         × (key_end.new ≡ face.key_end) × (value_start.new ≡ face.value_start) × (value_end.new ≡ face.value_end) }
 {
-    let s = items::step(area, at);
-    match s {
+    match items::step(area, at) {
         Stepped::Item {
             flags: f,
             key_start: a,
@@ -80,42 +73,34 @@ pub extern "C" fn zib_item_at(
     }
 }
 
-// 1 or 0.
-fn one_if(yes: bool) -> u32
-    ensures { result ≡ one_if yes }
-{
-    if yes {
-        return 1;
-    }
-    0
-}
-
 // The reply to get, and what it found into the lent numbers.
-fn found(f: Found, there: &mut u32, start: &mut usize, size: &mut usize, repeated: &mut u32) -> u32
-    ensures { let face = found_face f there.old start.old size.old repeated.old in
+fn found(
+    answer: Result<Option<Found>, Refusal>,
+    there: &mut u32,
+    start: &mut usize,
+    size: &mut usize,
+    repeated: &mut u32,
+) -> u32
+    ensures { let face = found_face answer there.old start.old size.old repeated.old in
         (result ≡ face.reply) × (there.new ≡ face.there) × (start.new ≡ face.start) × (size.new ≡ face.size)
         × (repeated.new ≡ face.repeated) }
 {
-    match f {
-        Found::Value {
-            start: at,
-            length: n,
-            repeated: later,
-        } => {
+    match answer {
+        Ok(Some(f)) => {
             *there = 1;
-            *start = at;
-            *size = n;
-            *repeated = one_if(later);
+            *start = f.start;
+            *size = f.length;
+            *repeated = u32::from(f.repeated);
             0
         }
-        Found::Nothing => {
+        Ok(None) => {
             *there = 0;
             *start = 0;
             *size = 0;
             *repeated = 0;
             0
         }
-        Found::Refused(r) => replies::number(r),
+        Err(r) => replies::number(r),
     }
 }
 
@@ -135,8 +120,7 @@ pub extern "C" fn zib_get(
         (result ≡ face.reply) × (there.new ≡ face.there) × (start.new ≡ face.start) × (size.new ≡ face.size)
         × (repeated.new ≡ face.repeated) }
 {
-    let f = items::find(area, count, key);
-    found(f, there, start, size, repeated)
+    found(items::find(area, count, key), there, start, size, repeated)
 }
 
 // The left number of the first undo item: `there` is 1 and `steps` the number, or both are 0 where there is none. It takes no notice of a
@@ -152,18 +136,17 @@ pub extern "C" fn zib_get_undo_gain(
         let face = gain_face found there.old steps.old in
         (result ≡ face.reply) × (there.new ≡ face.there) × (steps.new ≡ face.steps) }
 {
-    let g = area_values::get_undo_gain(area, count);
-    match g {
-        UndoGain::Steps(n) => {
+    match area_values::get_undo_gain(area, count) {
+        Ok(Some(n)) => {
             *there = 1;
             *steps = n;
             0
         }
-        UndoGain::Nothing => {
+        Ok(None) => {
             *there = 0;
             *steps = 0;
             0
         }
-        UndoGain::Refused(r) => replies::number(r),
+        Err(r) => replies::number(r),
     }
 }

@@ -6,42 +6,29 @@ ghost use Rattle.frame.specs.Gain.{mode_of};
 ghost use Rattle.calls.specs.Calls.{Level};
 ghost use Rattle.calls.specs.Lengths.{set_length, remove_length, level_length, slip_length, undo_length};
 ghost use Rattle.lengths.specs.Sizes.{length_answer};
-ghost use Rattle.c_lengths.specs.LengthFace.{length_face};
+ghost use Rattle.c_ape.specs.ApeFace.{written_face};
 
 use frame::{GainMode, GainSteps};
-use lengths::NewLength;
-
-// Puts the length into the lent number. The reply is 0, or the number of the refusal.
-fn put_length(n: NewLength, bytes: &mut usize) -> u32
-    ensures { let face = length_face n bytes.old in (result ≡ face.reply) × (bytes.new ≡ face.bytes) }
-{
-    match n {
-        NewLength::Bytes(m) => {
-            *bytes = m;
-            0
-        }
-        NewLength::Refused(r) => replies::number(r),
-    }
-}
+use gains::Moving;
 
 // The length of the file that zib_set_ape_item writes, into `bytes`. Refusals 1, 3, 4, 8, 6 and 5.
 #[unsafe(no_mangle)]
 pub extern "C" fn zib_set_length(file: &[u8], key: &[u8], value: &[u8], bytes: &mut usize) -> u32
     ensures { let plan = set_length file.now key.now value.now in
-        let face = length_face (length_answer plan) bytes.old in
-        (result ≡ face.reply) × (bytes.new ≡ face.bytes) }
+        let face = written_face (length_answer plan) bytes.old in
+        (result ≡ face.reply) × (bytes.new ≡ face.written) }
 {
-    put_length(lengths::set_length(file, key, value), bytes)
+    c_ape::put_written(lengths::set_length(file, key, value), bytes)
 }
 
 // The length of the file that zib_remove_ape_item writes, into `bytes`. Refusals 1, 3, 8, 6 and 5.
 #[unsafe(no_mangle)]
 pub extern "C" fn zib_remove_length(file: &[u8], key: &[u8], bytes: &mut usize) -> u32
     ensures { let plan = remove_length file.now key.now in
-        let face = length_face (length_answer plan) bytes.old in
-        (result ≡ face.reply) × (bytes.new ≡ face.bytes) }
+        let face = written_face (length_answer plan) bytes.old in
+        (result ≡ face.reply) × (bytes.new ≡ face.written) }
 {
-    put_length(lengths::remove_length(file, key), bytes)
+    c_ape::put_written(lengths::remove_length(file, key), bytes)
 }
 
 // The length of the file that zib_level writes, into `bytes`. Refusals 1, 2, 7, 8, 14, 9, 11, 6 and 5.
@@ -57,19 +44,15 @@ pub extern "C" fn zib_level_length(
 ) -> u32
     ensures { (let asked : Level = record { left = left_steps; right = right_steps; mode = mode_of wrap } in
         let plan = level_length file.now left.entry.now right.now asked in
-        let face = length_face (length_answer plan) bytes.old in
-        (result ≡ face.reply) × (bytes.new ≡ face.bytes)) }
+        let face = written_face (length_answer plan) bytes.old in
+        (result ≡ face.reply) × (bytes.new ≡ face.written)) }
 {
-    let mode = GainMode::from_wrap(wrap);
-    let n = level_lengths::level_length(
-        file,
-        left,
-        right,
-        GainSteps(left_steps),
-        GainSteps(right_steps),
-        mode,
-    );
-    put_length(n, bytes)
+    let moves = Moving {
+        left: GainSteps(left_steps),
+        right: GainSteps(right_steps),
+        mode: GainMode::from_wrap(wrap),
+    };
+    c_ape::put_written(level_lengths::level_length(file, left, right, moves), bytes)
 }
 
 // The length of the file that zib_level_by_slip writes, into `bytes`. Refusals 13, 1, 2, 7, 8, 14, 9, 11, 6 and 5.
@@ -82,18 +65,18 @@ pub extern "C" fn zib_level_by_slip_length(
     bytes: &mut usize,
 ) -> u32
     ensures { let plan = slip_length slip.now file.now left.now right.now in
-        let face = length_face (length_answer plan) bytes.old in
-        (result ≡ face.reply) × (bytes.new ≡ face.bytes) }
+        let face = written_face (length_answer plan) bytes.old in
+        (result ≡ face.reply) × (bytes.new ≡ face.written) }
 {
-    put_length(level_lengths::slip_length(slip, file, left, right), bytes)
+    c_ape::put_written(level_lengths::slip_length(slip, file, left, right), bytes)
 }
 
 // The length of the file that zib_undo writes, into `bytes`. Refusals 1, 7, 8, 14, 10 and 5.
 #[unsafe(no_mangle)]
 pub extern "C" fn zib_undo_length(file: &[u8], left: &[u8], right: &[u8], bytes: &mut usize) -> u32
     ensures { let plan = undo_length file.now left.now right.now in
-        let face = length_face (length_answer plan) bytes.old in
-        (result ≡ face.reply) × (bytes.new ≡ face.bytes) }
+        let face = written_face (length_answer plan) bytes.old in
+        (result ≡ face.reply) × (bytes.new ≡ face.written) }
 {
-    put_length(lengths::undo_length(file, left, right), bytes)
+    c_ape::put_written(lengths::undo_length(file, left, right), bytes)
 }

@@ -11,25 +11,23 @@ ghost use Rattle.level.specs.Answers.{level_answer, level_bytes, left_after, rig
 ghost use Rattle.c_area.specs.AreaFace.{edited_face};
 ghost use Rattle.c_level.specs.LevelFace.{level_face};
 
-use area_edit::Edited;
 use frame::{GainMode, GainSteps};
-use level::LevelAnswer;
+use gains::Moving;
+use level::Leveled;
+use replies::Refusal;
 
 // Puts what was done into the lent numbers. The reply is 0, or the number of the refusal.
-pub fn put_answer(w: LevelAnswer, written: &mut usize, peaks: &mut usize) -> u32
-    ensures { let face = level_face w written.old peaks.old in
+pub fn put_answer(answer: Result<Leveled, Refusal>, written: &mut usize, peaks: &mut usize) -> u32
+    ensures { let face = level_face answer written.old peaks.old in
         (result ≡ face.reply) × (written.new ≡ face.written) × (peaks.new ≡ face.peaks) }
 {
-    match w {
-        LevelAnswer::Done {
-            length: n,
-            peaks: p,
-        } => {
-            *written = n;
-            *peaks = p;
+    match answer {
+        Ok(done) => {
+            *written = done.length;
+            *peaks = done.peaks;
             0
         }
-        LevelAnswer::Refused(r) => replies::number(r),
+        Err(r) => replies::number(r),
     }
 }
 
@@ -53,17 +51,12 @@ pub fn zib_level(
         × (out.new ≡ over (level_bytes plan) out.old) × (left.new ≡ left_after plan left.old)
         × (right.new ≡ right_after plan right.old)) }
 {
-    let mode = GainMode::from_wrap(wrap);
-    let w = level::level(
-        file,
-        left,
-        right,
-        GainSteps(left_steps),
-        GainSteps(right_steps),
-        mode,
-        out,
-    );
-    put_answer(w, written, peaks)
+    let moves = Moving {
+        left: GainSteps(left_steps),
+        right: GainSteps(right_steps),
+        mode: GainMode::from_wrap(wrap),
+    };
+    put_answer(level::level(file, left, right, moves, out), written, peaks)
 }
 
 // Every gain moved back by the stored undo, and the file without the eight keys written to the front of `out`, its length into `written` and 0
@@ -102,16 +95,6 @@ pub fn zib_shift_stored_gain(
         × (out.new ≡ over (bytes plan) out.old) }
 {
     let mode = GainMode::from_wrap(wrap);
-    let e = area_shift::shift_stored_gain(area, count, GainSteps(steps), mode, out);
-    match e {
-        Edited::Done {
-            count: n,
-            length: m,
-        } => {
-            *items = n;
-            *written = m;
-            0
-        }
-        Edited::Refused(r) => replies::number(r),
-    }
+    let shifted = area_shift::shift_stored_gain(area, count, GainSteps(steps), mode, out);
+    c_area::put_edited(shifted, items, written)
 }

@@ -10,11 +10,9 @@ ghost use Rattle.c_level.specs.LevelFace.{level_face};
 ghost use Rattle.c_slip.specs.SlipFace.{gain_mode_number, mode_number, mode_with, slip_face, mode_face};
 
 use frame::GainMode;
-use level::LevelAnswer;
 use replies::Refusal;
-use slip::{Slip, SlipMode};
 
-// The number of a mode: 0 for N, 1 for W.
+// The number of a mode in the C interface: 0 for N, 1 for W.
 fn gain_mode_number(mode: GainMode) -> u32
     ensures { result ≡ gain_mode_number mode }
 {
@@ -25,12 +23,24 @@ fn gain_mode_number(mode: GainMode) -> u32
 }
 
 // The number of a slip's mode: 2 where it names none.
-fn mode_number(mode: SlipMode) -> u32
+fn mode_number(mode: Option<GainMode>) -> u32
     ensures { result ≡ mode_number mode }
 {
     match mode {
-        SlipMode::Named(m) => gain_mode_number(m),
-        SlipMode::Unnamed => 2,
+        Some(m) => gain_mode_number(m),
+        None => 2,
+    }
+}
+
+// The mode with a number: 0 for N, 1 for W, 2 for none named.
+pub fn mode_with(mode: u32) -> Option<Option<GainMode>>
+    ensures { result ≡ mode_with mode }
+{
+    match mode {
+        0 => Some(Some(GainMode::Saturating)),
+        1 => Some(Some(GainMode::Wrapping)),
+        2 => Some(None),
+        _ => None,
     }
 }
 
@@ -39,20 +49,14 @@ pub fn zib_parse_slip(text: &[u8], left: &mut i32, right: &mut i32, mode: &mut u
     ensures { let face = slip_face (read_slip text.now) left.old right.old mode.old in
         (result ≡ face.reply) × (left.new ≡ face.left) × (right.new ≡ face.right) × (mode.new ≡ face.mode) }
 {
-    let s = slip::parse_slip(text);
-    match s {
-        Slip::Steps(wish) => {
-            let a = wish.left;
-            let b = wish.right;
-            let l = a.0;
-            let r = b.0;
-            *left = l;
-            *right = r;
-            let m = wish.mode;
-            *mode = mode_number(m);
+    match slip::parse_slip(text) {
+        Ok(wish) => {
+            *left = wish.left.0;
+            *right = wish.right.0;
+            *mode = mode_number(wish.mode);
             0
         }
-        Slip::Refused(r) => replies::number(r),
+        Err(r) => replies::number(r),
     }
 }
 
@@ -62,19 +66,13 @@ pub fn zib_resolve_mode(file: &[u8], mode: u32, resolved: &mut u32) -> u32
     ensures { let face = mode_face (mode_with mode) file.now resolved.old in
         (result ≡ face.reply) × (resolved.new ≡ face.mode) }
 {
-    if mode == 0 {
-        *resolved = 0;
-        return 0;
+    match mode_with(mode) {
+        Some(named) => {
+            *resolved = gain_mode_number(level_slip::resolve_mode(file, named));
+            0
+        }
+        None => replies::number(Refusal::MalformedSlip),
     }
-    if mode == 1 {
-        *resolved = 1;
-        return 0;
-    }
-    if mode == 2 {
-        *resolved = gain_mode_number(level_slip::resolve_mode(file, SlipMode::Unnamed));
-        return 0;
-    }
-    replies::number(Refusal::MalformedSlip)
 }
 
 // Level as a slip asks: every gain moved, and the file with the items that say so written to the front of `out`, its length into `written` and

@@ -1,13 +1,13 @@
 -- What the faces of the calls on the gains in the sound answer and leave in their lent numbers.
 use Rattle.std.specs.Prelude.{ℕ, List, ℤ}
-use Rattle.std.proofs.Math.Option.{Option, none, some}
+use Rattle.std.specs.Prelude.{Option, None, Some, Result, Ok, Err}
 use Rattle.replies.specs.Refusal.{number_of, Plan, no}
+use Rattle.replies.specs.declared.Refusal.{Refusal}
+use Rattle.sound_lists.specs.declared.Counts.{Counts}
+use Rattle.frame.specs.declared.GainMode.{GainMode}
 use Rattle.replies.specs.declared.Refusal.TheVariants.{MalformedSlip}
-use Rattle.slip.specs.declared.SlipMode.{SlipMode}
 use Rattle.calls.specs.Calls.{Levelled}
 use Rattle.sound_calls.specs.Sound.{level_mp3_plan}
-use Rattle.sound_read.specs.declared.GainsRead.{GainsRead}
-use Rattle.sound_read.specs.declared.GainsRead.TheVariants.{Done, Refused}
 
 -- the reply, and what the two lent counts hold afterwards
 pub record CountsFace : Type 0 where
@@ -16,11 +16,11 @@ pub record CountsFace : Type 0 where
   pub right : ℕ
 
 -- from the answer, and what the lent counts held: a refusal leaves them
-abbrev pub counts_face : GainsRead → ℕ → ℕ → CountsFace
-counts_face (Refused r) left right = record { reply = number_of r; left = left; right = right }
-counts_face (Done c) left right = record { reply = 0; left = c.left; right = c.right }
+abbrev pub counts_face : Result Counts Refusal → ℕ → ℕ → CountsFace
+counts_face (Err r) left right = record { reply = number_of r; left = left; right = right }
+counts_face (Ok c) left right = record { reply = 0; left = c.left; right = c.right }
 
 -- level_mp3 by a mode that came as a number: refusal 13 where it is none
-abbrev pub numbered_plan : Option SlipMode → List ℕ → ℤ → ℤ → ℕ → Plan Levelled
-numbered_plan none file l r room = no MalformedSlip
-numbered_plan (some m) file l r room = level_mp3_plan file (record { left = record { 0 = l }; right = record { 0 = r }; mode = m }) room
+abbrev pub numbered_plan : Option (Option GainMode) → List ℕ → ℤ → ℤ → ℕ → Plan Levelled
+numbered_plan None file l r room = no MalformedSlip
+numbered_plan (Some m) file l r room = level_mp3_plan file (record { left = record { 0 = l }; right = record { 0 = r }; mode = m }) room

@@ -2,7 +2,7 @@
 #![tactic(auto)]
 
 ghost use Rattle.std.specs.Prelude.{◌≡◌, ◌≤◌, length};
-ghost use Rattle.std.proofs.Math.Option.{some};
+ghost use Rattle.std.specs.Prelude.{Some};
 ghost use Rattle.lists.specs.Write.{over};
 ghost use Rattle.sound_calls.specs.Sound.{read_gains_plan, undo_mp3_plan};
 ghost use Rattle.sound_read.specs.Answers.{read_answer, left_read, right_read};
@@ -11,11 +11,10 @@ ghost use Rattle.c_level.specs.LevelFace.{level_face};
 ghost use Rattle.c_slip.specs.SlipFace.{mode_with};
 ghost use Rattle.c_sound.specs.SoundFace.{counts_face, numbered_plan};
 
-use frame::{GainMode, GainSteps};
+use frame::GainSteps;
 use replies::Refusal;
-use slip::SlipMode;
+use slip::Wish;
 use sound_lists::Counts;
-use sound_read::GainsRead;
 
 // Hands out two counts.
 fn hand_out(counts: Counts, left_count: &mut usize, right_count: &mut usize)
@@ -40,28 +39,13 @@ pub extern "C" fn zib_read_gains(
         (result ≡ face.reply) × (left_count.new ≡ face.left) × (right_count.new ≡ face.right)
         × (left.new ≡ left_read plan left.old) × (right.new ≡ right_read plan right.old) }
 {
-    let g = sound_read::read_gains(file, left, right);
-    match g {
-        GainsRead::Done(counts) => {
+    match sound_read::read_gains(file, left, right) {
+        Ok(counts) => {
             hand_out(counts, left_count, right_count);
             0
         }
-        GainsRead::Refused(r) => replies::number(r),
+        Err(r) => replies::number(r),
     }
-}
-
-// The mode with a number up to 2: N, W, and none named.
-fn mode_with(mode: u32) -> SlipMode
-    requires { mode ≤ 2 }
-    ensures { some result ≡ mode_with mode }
-{
-    if mode == 0 {
-        return SlipMode::Named(GainMode::Saturating);
-    }
-    if mode == 1 {
-        return SlipMode::Named(GainMode::Wrapping);
-    }
-    SlipMode::Unnamed
 }
 
 // Every gain in the sound of `file` moved by its side's steps, and the file with the items that say so written to the front of `out`, its length
@@ -82,12 +66,15 @@ pub extern "C" fn zib_level_mp3(
         (result ≡ face.reply) × (written.new ≡ face.written) × (peaks.new ≡ face.peaks)
         × (out.new ≡ over (level_bytes plan) out.old) }
 {
-    if 2 < mode {
+    let Some(named) = c_slip::mode_with(mode) else {
         return replies::number(Refusal::MalformedSlip);
-    }
-    let m = mode_with(mode);
-    let w = sound_level::level_mp3(file, GainSteps(left_steps), GainSteps(right_steps), m, out);
-    c_level::put_answer(w, written, peaks)
+    };
+    let wish = Wish {
+        left: GainSteps(left_steps),
+        right: GainSteps(right_steps),
+        mode: named,
+    };
+    c_level::put_answer(sound_level::level_mp3(file, wish, out), written, peaks)
 }
 
 // Every gain in the sound of `file` moved back by the stored undo, and the file without the eight keys written to the front of `out`, its length into

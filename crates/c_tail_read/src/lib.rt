@@ -5,26 +5,15 @@ ghost use Rattle.std.specs.Prelude.{◌≡◌, length};
 ghost use Rattle.lists.specs.Write.{over};
 ghost use Rattle.ape.specs.Answers.{read_answer, read_bytes};
 ghost use Rattle.tail_read.specs.Answers.{needs_plan, needs_answer, end_plan};
-ghost use Rattle.c_ape.specs.ApeFace.{read_face};
-ghost use Rattle.c_tail_read.specs.TailReadFace.{needs_face};
-
-use ape::TagRead;
-use tail_read::Needs;
+ghost use Rattle.c_ape.specs.ApeFace.{read_face, written_face};
 
 // How many final bytes of a file of `total` bytes reading needs, by its last 160 bytes, or all where it has fewer. Refusal 1.
 #[unsafe(no_mangle)]
 pub extern "C" fn zib_bytes_needed(probe: &[u8], total: usize, needed: &mut usize) -> u32
-    ensures { let face = needs_face (needs_answer (needs_plan probe.now total)) needed.old in
-        (result ≡ face.reply) × (needed.new ≡ face.needed) }
+    ensures { let face = written_face (needs_answer (needs_plan probe.now total)) needed.old in
+        (result ≡ face.reply) × (needed.new ≡ face.written) }
 {
-    let s = tail_read::bytes_needed(probe, total);
-    match s {
-        Needs::Bytes(k) => {
-            *needed = k;
-            0
-        }
-        Needs::Refused(r) => replies::number(r),
-    }
+    c_ape::put_written(tail_read::bytes_needed(probe, total), needed)
 }
 
 // Reads the tag of a file of `total` bytes, of which so many final bytes are lent, into `area`: `there` is 1, with the count of items and the length of their
@@ -43,23 +32,5 @@ pub extern "C" fn zib_read_end(
         (result ≡ face.reply) × (there.new ≡ face.there) × (count.new ≡ face.count) × (written.new ≡ face.written)
         × (area.new ≡ over (read_bytes plan) area.old) }
 {
-    let t = tail_read::read_end(end, total, area);
-    match t {
-        TagRead::NoTag => {
-            *there = 0;
-            *count = 0;
-            *written = 0;
-            0
-        }
-        TagRead::Items {
-            count: n,
-            length: m,
-        } => {
-            *there = 1;
-            *count = n;
-            *written = m;
-            0
-        }
-        TagRead::Refused(r) => replies::number(r),
-    }
+    c_ape::put_read(tail_read::read_end(end, total, area), there, count, written)
 }

@@ -5,27 +5,33 @@ ghost use Rattle.std.specs.Prelude.{◌≡◌};
 ghost use Rattle.tail_write.specs.Answers.{rewrite_plan, rewrite_answer, rewrite_buffer, whole_answer, whole_buffer};
 ghost use Rattle.c_tail_write.specs.TailWriteFace.{rewritten_face};
 
+use replies::Refusal;
 use tail_write::Rewritten;
 
 // The reply to a rewriting, and into the lent numbers whether all writes were made, the first place that is written, and the length of the file.
-fn put_rewritten(w: Rewritten, whole: &mut u32, end: &mut usize, total: &mut usize) -> u32
+fn put_rewritten(
+    w: Result<Rewritten, Refusal>,
+    whole: &mut u32,
+    end: &mut usize,
+    total: &mut usize,
+) -> u32
     ensures { let face = rewritten_face w whole.old end.old total.old in
         (result ≡ face.reply) × (whole.new ≡ face.whole) × (end.new ≡ face.end) × (total.new ≡ face.length) }
 {
     match w {
-        Rewritten::Done { end: e, length: m } => {
+        Ok(Rewritten::Done { end: e, length: m }) => {
             *whole = 1;
             *end = e;
             *total = m;
             0
         }
-        Rewritten::Stopped { end: e, length: m } => {
+        Ok(Rewritten::Stopped { end: e, length: m }) => {
             *whole = 0;
             *end = e;
             *total = m;
             0
         }
-        Rewritten::Refused(x) => replies::number(x),
+        Err(r) => replies::number(r),
     }
 }
 
@@ -44,9 +50,8 @@ pub extern "C" fn zib_rewrite_ape_tail(
         (result ≡ face.reply) × (end.new ≡ face.end) × (total.new ≡ face.length)
         × (buf.new ≡ whole_buffer plan buf.old) }
 {
-    let n = *total;
     let mut whole = 0;
-    let w = tail_write::rewrite_ape_tail(buf, n, area, count);
+    let w = tail_write::rewrite_ape_tail(buf, *total, area, count);
     put_rewritten(w, &mut whole, end, total)
 }
 
@@ -67,7 +72,6 @@ pub extern "C" fn zib_rewrite_within(
         (result ≡ face.reply) × (whole.new ≡ face.whole) × (end.new ≡ face.end) × (total.new ≡ face.length)
         × (buf.new ≡ rewrite_buffer budget plan buf.old) }
 {
-    let n = *total;
-    let w = tail_write::rewrite_within(buf, n, area, count, budget);
+    let w = tail_write::rewrite_within(buf, *total, area, count, budget);
     put_rewritten(w, whole, end, total)
 }

@@ -25,15 +25,10 @@ pub extern "C" fn zib_tally(
         × (least.new ≡ t.least) × (greatest.new ≡ t.greatest) }
 {
     let t = tally::tally(gains, GainSteps(steps), GainMode::from_wrap(wrap));
-    let a = t.low;
-    let b = t.high;
-    let c = t.lost;
-    let d = t.least as u32;
-    let e = t.greatest as u32;
-    *low = a;
-    *high = b;
-    *lost = c;
-    *least = d;
-    *greatest = e;
+    *low = t.low;
+    *high = t.high;
+    *lost = t.lost;
+    *least = u32::from(t.least);
+    *greatest = u32::from(t.greatest);
     tally::saturated(t)
 }

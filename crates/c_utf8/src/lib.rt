@@ -1,14 +1,14 @@
 // The faces of crates utf8 and lossy.
 #![tactic(auto)]
 
-ghost use Rattle.std.specs.Prelude.{◌≡◌, length};
+ghost use Rattle.std.specs.Prelude.{◌≡◌, length, option_map};
 ghost use Rattle.lists.specs.Write.{over};
 ghost use Rattle.utf8.specs.Utf8.{valid};
 ghost use Rattle.lossy.specs.Lossy.{lossy};
-ghost use Rattle.lossy.specs.Write.{within, answer, bytes};
+ghost use Rattle.lossy.specs.Write.{within, bytes};
 ghost use Rattle.c_utf8.specs.Utf8Face.{conversion};
 
-use lossy::Converted;
+use replies::Refusal;
 
 // Whether the text is well-formed UTF-8.
 #[unsafe(no_mangle)]
@@ -22,11 +22,10 @@ pub extern "C" fn zib_is_utf8(text: &[u8]) -> bool
 #[unsafe(no_mangle)]
 pub extern "C" fn zib_lossy_size(text: &[u8], room: usize, size: &mut usize) -> u32
     ensures { let plan = within room (lossy text.now) in
-        (result ≡ (conversion (answer plan) size.old).reply) × (size.new ≡ (conversion (answer plan) size.old).written) }
+        (result ≡ (conversion (option_map length plan) size.old).reply) × (size.new ≡ (conversion (option_map length plan) size.old).written) }
 {
-    let x = lossy::lossy_size(text, room);
-    let Converted::Done(n) = x else {
-        return 5;
+    let Some(n) = lossy::lossy_size(text, room) else {
+        return replies::number(Refusal::NoRoom);
     };
     *size = n;
     0
@@ -36,15 +35,12 @@ pub extern "C" fn zib_lossy_size(text: &[u8], room: usize, size: &mut usize) -> 
 #[unsafe(no_mangle)]
 pub extern "C" fn zib_lossy_into(text: &[u8], out: &mut [u8], written: &mut usize) -> u32
     ensures { let plan = within (length out.old) (lossy text.now) in
-        (result ≡ (conversion (answer plan) written.old).reply)
-        × (written.new ≡ (conversion (answer plan) written.old).written) × (out.new ≡ over (bytes plan) out.old) }
+        (result ≡ (conversion (option_map length plan) written.old).reply)
+        × (written.new ≡ (conversion (option_map length plan) written.old).written) × (out.new ≡ over (bytes plan) out.old) }
 {
-    let x = lossy::lossy_into(text, out);
-    match x {
-        Converted::Done(n) => {
-            *written = n;
-            0
-        }
-        Converted::NoRoom => 5,
-    }
+    let Some(n) = lossy::lossy_into(text, out) else {
+        return replies::number(Refusal::NoRoom);
+    };
+    *written = n;
+    0
 }

@@ -1,6 +1,6 @@
 -- What the faces of crate values answer and leave in what they are lent.
 use Rattle.std.specs.Prelude.{ℕ, Bool, true, false, cond, List, length, leb, eqb}
-use Rattle.std.proofs.Math.Option.{Option, none, some}
+use Rattle.std.specs.Prelude.{Option, None, Some}
 use Rattle.lists.specs.Write.{over}
 use Rattle.replies.specs.Refusal.{number_of}
 use Rattle.replies.specs.declared.Refusal.TheVariants.{NoRoom}
@@ -33,5 +33,5 @@ moved_face t moved = record { reply = t.reply; moved = cond (eqb t.reply 0) 1 mo
 
 -- what stays as found has no new text
 abbrev pub shift_face : Option (List ℕ) → List ℕ → ℕ → ℕ → ShiftFace
-shift_face none out moved written = record { reply = 0; moved = 0; written = 0; out = out }
-shift_face (some w) out moved written = moved_face (text_face w out written) moved
+shift_face None out moved written = record { reply = 0; moved = 0; written = 0; out = out }
+shift_face (Some w) out moved written = moved_face (text_face w out written) moved

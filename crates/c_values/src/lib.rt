@@ -1,38 +1,25 @@
 // The faces of crate values, and of the steps of crate decibels.
 #![tactic(auto)]
 
-ghost use Rattle.std.specs.Prelude.{◌≡◌, ◌≤◌, length, take};
+ghost use Rattle.std.specs.Prelude.{◌≡◌};
 ghost use Rattle.values.specs.Undo.{parse_undo, undo_wraps, format_undo, accumulated};
 ghost use Rattle.values.specs.Range.{format_range};
 ghost use Rattle.values.specs.Stored.{range_wraps_out, shift_stored};
 ghost use Rattle.decibels.specs.Gain.{steps_to_db};
 ghost use Rattle.c_values.specs.ValuesFace.{flag, text_face, shift_face};
 
-use decimal::Text;
 use frame::GainSteps;
-
-// A flag as a number.
-fn flag_number(yes: bool) -> u32
-    ensures { result ≡ flag yes }
-{
-    if yes {
-        return 1;
-    }
-    0
-}
+use replies::Refusal;
 
 // Writes a text at the front of `out`, and its length into `written`. Refusal 5.
-fn put_text(text: Text, out: &mut [u8], written: &mut usize) -> u32
-    requires { text.len ≤ length text.bytes }
-    ensures { let face = text_face (take text.len text.bytes) out.old written.old in
+fn put_text(text: &[u8], out: &mut [u8], written: &mut usize) -> u32
+    ensures { let face = text_face text.now out.old written.old in
         (result ≡ face.reply) × (written.new ≡ face.written) × (out.new ≡ face.out) }
 {
-    let n = text.len;
-    if out.len() < n {
-        return 5;
+    if out.len() < text.len() {
+        return replies::number(Refusal::NoRoom);
     }
-    let bytes = text.bytes;
-    *written = lists::put(out, 0, &bytes[0..n]);
+    *written = lists::put(out, 0, text);
     0
 }
 
@@ -48,11 +35,9 @@ pub extern "C" fn zib_parse_undo(
         × (wrap.new ≡ flag (undo_wraps text.now)) }
 {
     let undo = values::parse_undo_values(text);
-    let a = undo.left;
-    let b = undo.right;
-    *left = a;
-    *right = b;
-    *wrap = flag_number(values::parse_undo_wrap(text));
+    *left = undo.left;
+    *right = undo.right;
+    *wrap = u32::from(values::parse_undo_wrap(text));
     0
 }
 
@@ -69,7 +54,7 @@ pub extern "C" fn zib_format_undo_value(
         (result ≡ face.reply) × (written.new ≡ face.written) × (out.new ≡ face.out) }
 {
     let text = values::format_undo_value(left, right, wrap);
-    put_text(text, out, written)
+    put_text(text.as_slice(), out, written)
 }
 
 // The undo numbers after a further apply.
@@ -85,10 +70,8 @@ pub extern "C" fn zib_accumulate_undo(
         × (newright.new ≡ (accumulated text.now left right).right) }
 {
     let undo = values::accumulate_undo(text, GainSteps(left), GainSteps(right));
-    let a = undo.left;
-    let b = undo.right;
-    *newleft = a;
-    *newright = b;
+    *newleft = undo.left;
+    *newright = undo.right;
     0
 }
 
@@ -105,7 +88,7 @@ pub extern "C" fn zib_format_minmax(
         (result ≡ face.reply) × (written.new ≡ face.written) × (out.new ≡ face.out) }
 {
     let text = values::format_minmax(least, greatest);
-    put_text(text, out, written)
+    put_text(text.as_slice(), out, written)
 }
 
 // Whether an item is a range of which a number leaves 0..255.
@@ -129,11 +112,9 @@ pub extern "C" fn zib_steps_to_db(
         × (rest.new ≡ (steps_to_db steps).2) }
 {
     let db = decibels::steps_to_db(GainSteps(steps));
-    let a = db.1;
-    let b = db.2;
-    *millionths = a;
-    *rest = b;
-    *minus = flag_number(db.0);
+    *minus = u32::from(db.0);
+    *millionths = db.1;
+    *rest = db.2;
     0
 }
 
@@ -151,13 +132,12 @@ pub extern "C" fn zib_shift_stored_value(
         let face = shift_face shifted out.old moved.old written.old in
         (result ≡ face.reply) × (moved.new ≡ face.moved) × (written.new ≡ face.written) × (out.new ≡ face.out) }
 {
-    let s = values::shift_stored_value(key, value, GainSteps(steps));
-    if !s.moved {
+    let Some(text) = values::shift_stored_value(key, value, GainSteps(steps)) else {
         *moved = 0;
         *written = 0;
         return 0;
-    }
-    let reply = put_text(s.text, out, written);
+    };
+    let reply = put_text(text.as_slice(), out, written);
     if reply == 0 {
         *moved = 1;
     }

@@ -2,30 +2,29 @@
 use Prim.Native.Nat.{ℕ, ◌≤◌}
 use mathlib.Core.Path.{◌≡◌, refl}
 use mathlib.Core.Bool.{Bool, true, ◌&&◌, false≢true}
-use mathlib.Core.Option.{Option, none, some}
+use Rattle.std.specs.Prelude.{Option, None, Some}
 use mathlib.Core.List.{List, []}
 use borrow.Author.Tests.{eqb-true, leb-true}
 use Rattle.lists.specs.Choice.{found, is_some}
 use Rattle.replies.specs.Limits.{count_limit}
 use Rattle.items.specs.Items.{Item, parse}
 use Rattle.ape.specs.Tag.{find_footer, version_at, size_at, count_at, area_at}
-use Rattle.ape.specs.declared.Footer.TheVariants.{At}
 use Rattle.calls.specs.Gate.{is_version2, counts_footer, has_start, count_fits, area_fits, is_headed, fit, all_valid, gate_items, passes_gate, items_of}
 use Rattle.calls.proofs.Lists.{both, cond-some, provided-some}
 
 -- the items that it finds
-pub gate-some : (s : List ℕ) → passes_gate s ≡ true → gate_items s ≡ some (items_of s)
+pub gate-some : (s : List ℕ) → passes_gate s ≡ true → gate_items s ≡ Some (items_of s)
 unfolding passes_gate items_of
 gate-some s e = go (gate_items s) e
   where
-    go : (o : Option (List Item)) → is_some o ≡ true → o ≡ some (found o [] (λ ts. ts))
-    go none e = absurd (false≢true e)
-    go (some ts) e = refl
+    go : (o : Option (List Item)) → is_some o ≡ true → o ≡ Some (found o [] (λ ts. ts))
+    go None e = absurd (false≢true e)
+    go (Some ts) e = refl
 
 module _ (s : List ℕ) (f : ℕ) where
   -- with a footer, all that it asks holds
-  pub gate-footer : find_footer s ≡ At f → passes_gate s ≡ true
-      → (fit s f ≡ true) × (parse (count_at s f) (area_at s f) ≡ some (items_of s)) × (all_valid (items_of s) ≡ true)
+  pub gate-footer : find_footer s ≡ Some f → passes_gate s ≡ true
+      → (fit s f ≡ true) × (parse (count_at s f) (area_at s f) ≡ Some (items_of s)) × (all_valid (items_of s) ≡ true)
   unfolding gate_items
   gate-footer at e =
       let (c, d) = cond-some (fit s f) _ (items_of s) (rw at at (gate-some s e)) in

@@ -3,7 +3,7 @@ use Prim.Native.Nat.{ℕ, ◌+◌, ◌≤◌}
 use native.Mathlib.Omega.{arith}
 use mathlib.Core.Path.{◌≡◌, refl, sym, ap, ◌∙◌}
 use mathlib.Core.Bool.{Bool, true, false, cond, true≢false}
-use mathlib.Core.Option.{Option, none, some}
+use Rattle.std.specs.Prelude.{Option, None, Some}
 use mathlib.Core.List.{List, [], ◌∷◌, map}
 use lib.Dec.{leb, ltb}
 use lib.IntN.{ℤ}
@@ -54,13 +54,13 @@ by-undo key e = go (is_mp3gain_key key) refl
     go true q = q
     go false q = absurd (true≢false (sym e ∙ not-by-undo key q))
 
-pub none-got : (ts : List Item) → count_of is_mp3gain_key ts ≡ 0 → get_item undo_key ts ≡ none
+pub none-got : (ts : List Item) → count_of is_mp3gain_key ts ≡ 0 → get_item undo_key ts ≡ None
 unfolding count_of get_item
 none-got [] e = refl
 none-got (t ∷ ts) e = go (is_mp3gain_key t.key) refl e (none-got ts)
   where
-    go : (b : Bool) → is_mp3gain_key t.key ≡ b → cond b 1 0 + count_of is_mp3gain_key ts ≡ 0 → (count_of is_mp3gain_key ts ≡ 0 → get_item undo_key ts ≡ none)
-        → get_item undo_key (t ∷ ts) ≡ none
+    go : (b : Bool) → is_mp3gain_key t.key ≡ b → cond b 1 0 + count_of is_mp3gain_key ts ≡ 0 → (count_of is_mp3gain_key ts ≡ 0 → get_item undo_key ts ≡ None)
+        → get_item undo_key (t ∷ ts) ≡ None
     go true q e ih = absurd (omega arith)
     go false q e ih = rw (not-by-undo t.key q) (ih (omega arith))
 
@@ -115,8 +115,8 @@ unfolding kind_of is_from
 other-kind key e = go (which_key key) refl e
   where
     go : (o : Option ℕ) → which_key key ≡ o → found o false (λ i. leb 0 i) ≡ false → kind_of key ≡ Other
-    go none q e = rw q
-    go (some i) q e = absurd (true≢false (sym (le-leb 0 i (omega arith)) ∙ e))
+    go None q e = rw q
+    go (Some i) q e = absurd (true≢false (sym (le-leb 0 i (omega arith)) ∙ e))
 
 out-eight : (z : ℤ) (key value : List ℕ) → range_wraps_out key value z ≡ true → is_mp3gain_key key ≡ true
 unfolding range_wraps_out
@@ -147,8 +147,8 @@ unfolding shift_item
 shift-key z t = go (shift_stored t.key t.value z)
   where
     go : (o : Option (List ℕ)) → (found o t (λ w. with_value w t)).key ≡ t.key
-    go none = refl
-    go (some w) = refl
+    go None = refl
+    go (Some w) = refl
 
 map-others : (z : ℤ) (ts : List Item) → others (map (shift_item z) ts) ≡ others ts
 unfolding others without
@@ -170,8 +170,8 @@ unfolding shift_item
 item-valid z t v = go (shift_stored t.key t.value z) refl
   where
     go : (o : Option (List ℕ)) → shift_stored t.key t.value z ≡ o → item_valid (found o t (λ w. with_value w t)) ≡ true
-    go none e = v
-    go (some w) e = valid-value w t (plain-valid w (stored_short t.key t.value z w e).plain) v
+    go None e = v
+    go (Some w) e = valid-value w t (plain-valid w (stored_short t.key t.value z w e).plain) v
 
 map-valid : (z : ℤ) (ts : List Item) → all_valid ts ≡ true → all_valid (map (shift_item z) ts) ≡ true
 unfolding all_valid
@@ -197,8 +197,8 @@ unfolding shift_item
 item-sane z t s = go (shift_stored t.key t.value z)
   where
     go : (o : Option (List ℕ)) → Sane (found o t (λ w. with_value w t))
-    go none = s
-    go (some w) = (s.0, omega arith)
+    go None = s
+    go (Some w) = (s.0, omega arith)
 
 map-sane : (z : ℤ) (ts : List Item) → AllSane ts → AllSane (map (shift_item z) ts)
 map-sane z [] s = tt

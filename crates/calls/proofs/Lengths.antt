@@ -4,7 +4,7 @@ use native.Mathlib.Omega.{arith}
 use mathlib.Core.Path.{◌≡◌, refl, sym, ap, ◌∙◌}
 use mathlib.Core.Logic.{◌⊎◌, inl, inr, ⊎_elim}
 use mathlib.Core.Bool.{Bool, true, false, ◌&&◌}
-use mathlib.Core.Option.{Option, none, some}
+use Rattle.std.specs.Prelude.{Option, None, Some}
 use mathlib.Core.List.{List, [], ◌∷◌}
 use lib.ListN.{length}
 use lib.Dec.{leb}
@@ -176,8 +176,8 @@ unfolding slip_plan
 slip-foretold slip file left right = go (slip_form slip)
   where
     go : (o : Option Wish) → Foretells file_length (λ room. found o (no MalformedSlip) (λ w. level_plan file left right (asked w file) room))
-    go none = record { enough = λ n q room h. refl; short = λ n q room h. never MalformedSlip n q; refused = λ r q room. let y : MalformedSlip ≡ r = cc in ap no y }
-    go (some w) = level-foretold file left right (asked w file)
+    go None = record { enough = λ n q room h. refl; short = λ n q room h. never MalformedSlip n q; refused = λ r q room. let y : MalformedSlip ≡ r = cc in ap no y }
+    go (Some w) = level-foretold file left right (asked w file)
 
 undo-last : (a c d e f : Bool) (x : Levelled)
     → Last (λ ok. planned (refusal_of (need FileTooLong a ∷ need NoLeftGains c ∷ need NotEditable d ∷ need SecondUndo e ∷ need NoUndo f ∷ need NoRoom ok ∷ [])) x) x

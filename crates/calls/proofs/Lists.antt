@@ -1,7 +1,8 @@
 -- Tests and answers taken apart.
 use mathlib.Core.Path.{◌≡◌, refl}
 use mathlib.Core.Bool.{Bool, true, false, ◌&&◌, ◌||◌, cond, and-eq-true_iff}
-use mathlib.Core.Option.{Option, none, some, none-ne-some}
+use Rattle.std.proofs.lemmas.Option.{none-some}
+use Rattle.std.specs.Prelude.{Option, None, Some}
 use Rattle.lists.specs.Choice.{provided}
 
 pub both : (a b : Bool) → (a && b) ≡ true → (a ≡ true) × (b ≡ true)
@@ -15,15 +16,15 @@ or-of true q = refl
 or-of false q = q
 
 -- an answer under a test
-pub cond-some : {A : Type 0} (t : Bool) (o : Option A) (r : A) → cond t o none ≡ some r → (t ≡ true) × (o ≡ some r)
+pub cond-some : {A : Type 0} (t : Bool) (o : Option A) (r : A) → cond t o None ≡ Some r → (t ≡ true) × (o ≡ Some r)
 cond-some true o r e = (refl, e)
-cond-some false o r e = absurd (none-ne-some r e)
+cond-some false o r e = absurd (none-some r e)
 
 -- an answer that passed a test
-pub provided-some : {A : Type 0} (p : A → Bool) (o : Option A) (r : A) → provided p o ≡ some r → (o ≡ some r) × (p r ≡ true)
-provided-some p none r e = absurd (none-ne-some r e)
-provided-some p (some a) r e = go (p a) refl e
+pub provided-some : {A : Type 0} (p : A → Bool) (o : Option A) (r : A) → provided p o ≡ Some r → (o ≡ Some r) × (p r ≡ true)
+provided-some p None r e = absurd (none-some r e)
+provided-some p (Some a) r e = go (p a) refl e
   where
-    go : (t : Bool) → p a ≡ t → cond t (some a) none ≡ some r → (◌≡◌ {A = Option _} (some a) (some r)) × (p r ≡ true)
+    go : (t : Bool) → p a ≡ t → cond t (Some a) None ≡ Some r → (◌≡◌ {A = Option _} (Some a) (Some r)) × (p r ≡ true)
     go true q e = let i : a ≡ r = cc in (e, rw (← i) q)
-    go false q e = absurd (none-ne-some r e)
+    go false q e = absurd (none-some r e)

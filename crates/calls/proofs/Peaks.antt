@@ -3,7 +3,7 @@ use Prim.Native.Nat.{ℕ, ◌+◌, ◌<◌}
 use native.Mathlib.Omega.{arith}
 use mathlib.Core.Path.{◌≡◌, refl, sym, ◌∙◌}
 use mathlib.Core.Bool.{Bool, true, false, not, ◌&&◌, ◌||◌, cond, true≢false}
-use mathlib.Core.Option.{Option, none, some}
+use Rattle.std.specs.Prelude.{Option, None, Some}
 use mathlib.Core.List.{List, [], ◌∷◌, map}
 use lib.Dec.{eqb, leb}
 use lib.IntN.{ℤ}
@@ -58,15 +58,15 @@ out-other : (key value : List ℕ) (z : ℤ) → range_wraps_out key value z ≡
 unfolding range_wraps_out kind_of is_peak_key
 out-other key value z e = go (which_key key) refl
   where
-    by : (i : ℕ) → which_key key ≡ some i → (a b c : Bool) → is_range i ≡ a → is_gain i ≡ b → is_peak i ≡ c → is_peak i ≡ false
+    by : (i : ℕ) → which_key key ≡ Some i → (a b c : Bool) → is_range i ≡ a → is_gain i ≡ b → is_peak i ≡ c → is_peak i ≡ false
     by i q true b c p r s = range_other i p
     by i q false true c p r s = absurd (true≢false (sym e ∙ rw (q, p, r)))
     by i q false false true p r s = absurd (true≢false (sym e ∙ rw (q, p, r, s)))
     by i q false false false p r s = s
 
     go : (o : Option ℕ) → which_key key ≡ o → is_peak_key key ≡ false
-    go none q = rw q
-    go (some i) q = rw q (by i q (is_range i) (is_gain i) (is_peak i) refl refl refl)
+    go None q = rw q
+    go (Some i) q = rw q (by i q (is_range i) (is_gain i) (is_peak i) refl refl refl)
 
 count-staying : (m : GainMode) (z : ℤ) (ts : List Item) → count_of is_peak_key (staying m z ts) ≡ count_of is_peak_key ts
 unfolding count_of staying
@@ -86,8 +86,8 @@ unfolding is_from is_peak_key
 undone-peak key e = go (which_key key) e
   where
     go : (o : Option ℕ) → found o false (λ i. leb 2 i) ≡ false → found o false is_peak ≡ false
-    go none e = refl
-    go (some i) e =
+    go None e = refl
+    go (Some i) e =
         let h : i < 2 = leb-false 2 i e in
         rw (ne_eqb i 4 (λ j. omega arith), ne_eqb i 6 (λ j. omega arith))
 

@@ -4,7 +4,7 @@ use Prim.Native.Nat.{ℕ, zero, suc}
 use native.Mathlib.Omega.{arith}
 use mathlib.Core.Path.{◌≡◌, refl}
 use mathlib.Core.Bool.{Bool, true, false, ◌&&◌, cond}
-use mathlib.Core.Option.{Option, none, some}
+use Rattle.std.specs.Prelude.{Option, None, Some}
 use mathlib.Core.List.{List, [], ◌∷◌, map}
 use lib.IntN.{ℤ}
 use Rattle.lists.specs.Choice.{found}
@@ -16,7 +16,6 @@ use Rattle.values.specs.Stored.{range_wraps_out, shift_stored}
 use Rattle.lossy.specs.Lossy.{lossy}
 use Rattle.items.specs.Items.{Item, Head, head, parse, with_value, text_item, new_item, set_item, without}
 use Rattle.ape.specs.Tag.{find_footer, count_at, area_at, read_value, converted, read_items}
-use Rattle.ape.specs.declared.Footer.TheVariants.{At}
 use Rattle.calls.specs.Gate.{fit, item_valid, all_valid, gate_items}
 use Rattle.calls.specs.Calls.{Level, staying, shift_item, shift_stored_gain, same_step, shifted_items, levelled_items}
 
@@ -61,8 +60,8 @@ module _ (P : Item → Type 0) (new : (key value : List ℕ) → P (new_item key
   each-moved z (t ∷ ts) (a, r) = (go (shift_stored t.key t.value z), each-moved z ts r)
     where
       go : (o : Option (List ℕ)) → P (found o t (λ v. with_value v t))
-      go none = a
-      go (some v) = again v t a
+      go None = a
+      go (Some v) = again v t a
 
   pub each-shifted : (m : GainMode) (z : ℤ) (ts : List Item) → Each P ts → Each P (shift_stored_gain m z ts)
   unfolding shift_stored_gain
@@ -112,8 +111,8 @@ plain-items [] h = refl
 plain-items (t ∷ ts) (a, r) = rw (plain-item t a, plain-items ts r)
 
 -- a file whose items have flags zero and texts that are UTF-8 passes the gate, with these items
-pub plain-gate : (s : List ℕ) (f : ℕ) (ts : List Item) → find_footer s ≡ At f → fit s f ≡ true → parse (count_at s f) (area_at s f) ≡ some ts → Each Plain ts
-    → texts_valid ts ≡ true → gate_items s ≡ some ts
+pub plain-gate : (s : List ℕ) (f : ℕ) (ts : List Item) → find_footer s ≡ Some f → fit s f ≡ true → parse (count_at s f) (area_at s f) ≡ Some ts → Each Plain ts
+    → texts_valid ts ≡ true → gate_items s ≡ Some ts
 unfolding gate_items
 plain-gate s f ts a b c h v = rw (a, b, c, plain-items ts h, v)
 
@@ -132,5 +131,5 @@ plain-reading (suc n) s k = go (head s) k (λ r. plain-reading n r)
         → ((r : List ℕ) → Each Plain (read_items n r) → read_items n r ≡ read_plain n r)
         → found o [] (λ h. converted h.item.flags h.item.key h.item.value ∷ read_items n h.rest)
         ≡ found o [] (λ h. text_item (lossy h.item.key) (lossy h.item.value) ∷ read_plain n h.rest)
-    go none k ih = refl
-    go (some h) (a, r) ih = rw (a, ih h.rest r)
+    go None k ih = refl
+    go (Some h) (a, r) ih = rw (a, ih h.rest r)

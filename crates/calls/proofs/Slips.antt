@@ -3,7 +3,7 @@ use Prim.Native.Nat.{ℕ}
 use native.Mathlib.Omega.{arith}
 use mathlib.Core.Path.{◌≡◌, refl, sym, ◌∙◌}
 use mathlib.Core.Bool.{Bool, true, false}
-use mathlib.Core.Option.{Option, none, some}
+use Rattle.std.specs.Prelude.{Option, None, Some}
 use mathlib.Core.List.{List, [], ◌∷◌}
 use lib.IntN.{ℤ}
 use lib.ListN.{length}
@@ -18,7 +18,6 @@ use Rattle.frame.specs.declared.GainMode.TheVariants.{Wrapping}
 use Rattle.frame.specs.Gain.{mode_of}
 use Rattle.keys.specs.Keys.{undo_key}
 use Rattle.values.specs.Undo.{undo_wraps}
-use Rattle.slip.specs.declared.SlipMode.TheVariants.{Named, Unnamed}
 use Rattle.slip.specs.declared.Wish.{Wish}
 use Rattle.slip.specs.Slip.{slip_form}
 use Rattle.items.specs.Items.{Item, is_repeated}
@@ -29,14 +28,14 @@ use Rattle.calls.specs.Calls.{Level, Levelled, stored_undo, undo_once, agrees, r
 
 -- ---- a slip with a written line is obeyed
 
-pub line-obeyed : (slip file left right : List ℕ) (room : ℕ) (w : Wish) (m : GainMode) → slip_form slip ≡ some w → w.mode ≡ Named m
+pub line-obeyed : (slip file left right : List ℕ) (room : ℕ) (w : Wish) (m : GainMode) → slip_form slip ≡ Some w → w.mode ≡ Some m
     → slip_plan slip file left right room ≡ level_plan file left right (record { left = w.left.0; right = w.right.0; mode = m }) room
 unfolding slip_plan resolved
 line-obeyed slip file left right room w m e n = rw (e, n)
 
 -- ---- a slip without the line does not meet refusal 9
 
-pub unnamed-agrees : (ts : List Item) → found (stored_undo ts) true (agrees (resolved Unnamed ts)) ≡ true
+pub unnamed-agrees : (ts : List Item) → found (stored_undo ts) true (agrees (resolved None ts)) ≡ true
 unfolding resolved
 unnamed-agrees ts = go (stored_undo ts) refl
   where
@@ -45,8 +44,8 @@ unnamed-agrees ts = go (stored_undo ts) refl
     flag s false e = rw e
 
     go : (o : Option (List ℕ)) → stored_undo ts ≡ o → found o true (agrees (found o Wrapping (λ s. mode_of (undo_wraps s)))) ≡ true
-    go none e = refl
-    go (some s) e = flag s (undo_wraps s) refl
+    go None e = refl
+    go (Some s) e = flag s (undo_wraps s) refl
 
 -- level's tests, by what they find
 abbrev tests : Bool → Bool → Bool → Bool → Bool → Bool → Bool → Bool → Bool → Option Refusal
@@ -81,7 +80,7 @@ module _ (file left right : List ℕ) (room : ℕ) (l : Level) where
   unfolding level_plan
   level-by once flag o f = rw (o, f)
 
-pub unnamed-not-nine : (slip file left right : List ℕ) (room : ℕ) (w : Wish) → slip_form slip ≡ some w → w.mode ≡ Unnamed → slip_plan slip file left right room ≡ no FlagDiffers → ⊥
+pub unnamed-not-nine : (slip file left right : List ℕ) (room : ℕ) (w : Wish) → slip_form slip ≡ Some w → w.mode ≡ None → slip_plan slip file left right room ≡ no FlagDiffers → ⊥
 unfolding slip_plan
 unnamed-not-nine slip file left right room w e n q =
     let l = asked w file in

@@ -1,6 +1,6 @@
 -- The calls that write a file: each is refused, or done with what it gives (document 01, "Replies", "Editing and writing", "Level and undo").
 use Rattle.std.specs.Prelude.{ℕ, ◌+◌, min, max, Bool, true, false, not, ◌&&◌, ◌||◌, cond, List, [], ◌∷◌, ◌++◌, map, eqb, ltb, ℤ, pos, negsuc}
-use Rattle.std.proofs.Math.Option.{Option, get_or}
+use Rattle.std.specs.Prelude.{Option, None, Some, unwrap_or}
 use Rattle.std.specs.Int.Signed.{mag}
 use Rattle.lists.specs.Choice.{found, is_some}
 use Rattle.replies.specs.Refusal.{Test, need, refusal_of, Plan, no, planned}
@@ -27,8 +27,6 @@ use Rattle.values.specs.declared.Range.{Range}
 use Rattle.values.specs.Undo.{format_undo, parse_undo, undo_wraps, accumulated}
 use Rattle.values.specs.Range.{format_range}
 use Rattle.values.specs.Stored.{is_peak, range_wraps_out, shift_stored}
-use Rattle.slip.specs.declared.SlipMode.{SlipMode}
-use Rattle.slip.specs.declared.SlipMode.TheVariants.{Named, Unnamed}
 use Rattle.slip.specs.declared.Wish.{Wish}
 use Rattle.slip.specs.Slip.{is_step, slip_form}
 use Rattle.items.specs.Items.{Item, get_item, with_value, set_item, without, remove_item, count_of, is_repeated}
@@ -110,13 +108,13 @@ agrees Saturating s = not (undo_wraps s)
 agrees Wrapping s = undo_wraps s
 
 -- the mode of a slip: what it names, or else the stored flag, and W where there is no undo item
-unfoldable pub resolved : SlipMode → List Item → GainMode
-resolved (Named m) ts = m
-resolved Unnamed ts = found (stored_undo ts) Wrapping (λ s. mode_of (undo_wraps s))
+unfoldable pub resolved : Option GainMode → List Item → GainMode
+resolved (Some m) ts = m
+resolved None ts = found (stored_undo ts) Wrapping (λ s. mode_of (undo_wraps s))
 
 -- the undo numbers that level stores: nothing stored reads as the empty text
 unfoldable pub booked : Level → List Item → UndoValues
-booked l ts = accumulated (get_or (stored_undo ts) []) l.left l.right
+booked l ts = accumulated (unwrap_or (stored_undo ts) []) l.left l.right
 
 -- refusal 11: a number lies in -32,768..32,767
 abbrev pub is_undo_number : ℤ → Bool
@@ -265,7 +263,7 @@ undo_tests file left room =
 -- every gain adjusted by the stored numbers, and the file without the eight keys: no peak item is left
 abbrev pub undo_gives : List ℕ → List ℕ → List ℕ → Levelled
 undo_gives file left right =
-    let text = get_or (stored_undo (items_of file)) [] in
+    let text = unwrap_or (stored_undo (items_of file)) [] in
     record { out = replaced file (others (items_of file)); left = undone_left text left; right = undone_right text right; peaks = 0 }
 
 -- undo: refused by the first test that fails, else what it gives

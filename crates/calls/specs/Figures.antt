@@ -1,6 +1,6 @@
 -- Document 01's bench figures marked P, and the small examples of its table of replies with those of document 02's requests, over the definitions that the contracts cite.
 use Rattle.std.specs.Prelude.{ℕ, ◌≡◌, true, false, List, [], ◌∷◌, ◌++◌, length, replicate, ℤ, pos, negsuc}
-use Rattle.std.proofs.Math.Option.{Option, none, some}
+use Rattle.std.specs.Prelude.{Option, None, Some}
 use Rattle.lists.specs.Bytes.{ascii}
 use Rattle.lists.specs.Le.{u32le}
 use Rattle.replies.specs.Refusal.{no, yes}
@@ -26,7 +26,6 @@ use Rattle.lossy.specs.Lossy.{mark, lossy}
 use Rattle.values.specs.Undo.{format_undo, parse_undo}
 use Rattle.values.specs.Stored.{shift_stored, range_wraps_out}
 use Rattle.decibels.specs.Gain.{shift_gain}
-use Rattle.slip.specs.declared.SlipMode.TheVariants.{Named, Unnamed}
 use Rattle.items.specs.Items.{Item, area_bytes, text_item}
 use Rattle.ape.specs.Tag.{header_flags, footer_flags, size_at, serialize, read_tag, replaced}
 use Rattle.calls.specs.Calls.{Level, set_plan, remove_plan, shift_stored_gain, resolved, peaks_kept, level_plan, slip_plan, undo_plan}
@@ -82,14 +81,14 @@ pub record Figures : Type 0 where
   pub w-high : adjust Wrapping (pos 10) 250 ≡ 4
   pub w-low : adjust Wrapping (negsuc 8) 3 ≡ 250
   -- `094,168` by 100: `194,255`; under W dropped
-  pub range-text : shift_stored (ascii "MP3GAIN_MINMAX") (ascii "094,168") (pos 100) ≡ some (ascii "194,255")
+  pub range-text : shift_stored (ascii "MP3GAIN_MINMAX") (ascii "094,168") (pos 100) ≡ Some (ascii "194,255")
   pub range-out : range_wraps_out (ascii "MP3GAIN_MINMAX") (ascii "094,168") (pos 100) ≡ true
   pub range-n : shift_stored_gain Saturating (pos 100) (ranged (ascii "094,168") ∷ []) ≡ ranged (ascii "194,255") ∷ []
   pub range-w : shift_stored_gain Wrapping (pos 100) (ranged (ascii "094,168") ∷ []) ≡ []
   -- `-3.500000 dB` by 2; `+1.505150 dB` by 1; `-1.505150 dB` by -1
-  pub gain-two : shift_gain (pos 2) (ascii "-3.500000 dB") ≡ some (ascii "-6.510300 dB")
-  pub gain-one : shift_gain (pos 1) (ascii "+1.505150 dB") ≡ some (ascii "+0.000000 dB")
-  pub gain-minus : shift_gain (negsuc 0) (ascii "-1.505150 dB") ≡ some (ascii "-0.000000 dB")
+  pub gain-two : shift_gain (pos 2) (ascii "-3.500000 dB") ≡ Some (ascii "-6.510300 dB")
+  pub gain-one : shift_gain (pos 1) (ascii "+1.505150 dB") ≡ Some (ascii "+0.000000 dB")
+  pub gain-minus : shift_gain (negsuc 0) (ascii "-1.505150 dB") ≡ Some (ascii "-0.000000 dB")
   -- hex E2 82 41 reads EF BF BD 41; F0 80 gives two marks
   pub one-mark : lossy (0xE2 ∷ 0x82 ∷ 0x41 ∷ []) ≡ 0xEF ∷ 0xBF ∷ 0xBD ∷ 0x41 ∷ []
   pub two-marks : lossy (0xF0 ∷ 0x80 ∷ []) ≡ mark ++ mark
@@ -185,29 +184,29 @@ pub record Examples : Type 0 where
   pub shift-flags : shift_stored_gain Saturating (pos 100) (flagged 3 (ascii "MP3GAIN_MINMAX") (ascii "094,168") ∷ flagged 3 (ascii "MP3GAIN_MINMAX") (ascii "x") ∷ [])
       ≡ flagged 1 (ascii "MP3GAIN_MINMAX") (ascii "194,255") ∷ flagged 3 (ascii "MP3GAIN_MINMAX") (ascii "x") ∷ []
   -- peaks move to the nearest millionth; a needless zero goes, by 0 steps too
-  pub peak-up : peak_by (pos 1) (ascii "1.000000") ≡ some (ascii "1.189207")
-  pub peak-down : peak_by (negsuc 0) (ascii "1.000000") ≡ some (ascii "0.840896")
-  pub peak-still : peak_by (pos 0) (ascii "00.500000") ≡ some (ascii "0.500000")
-  pub peak-tens : peak_by (pos 4) (ascii "09.500000") ≡ some (ascii "19.000000")
+  pub peak-up : peak_by (pos 1) (ascii "1.000000") ≡ Some (ascii "1.189207")
+  pub peak-down : peak_by (negsuc 0) (ascii "1.000000") ≡ Some (ascii "0.840896")
+  pub peak-still : peak_by (pos 0) (ascii "00.500000") ≡ Some (ascii "0.500000")
+  pub peak-tens : peak_by (pos 4) (ascii "09.500000") ≡ Some (ascii "19.000000")
   -- a half goes up: 1/2, 3/2, 1/2 and 7812 1/2 millionths
-  pub half-of-1 : peak_by (negsuc 3) (ascii "0.000001") ≡ some (ascii "0.000001")
-  pub half-of-3 : peak_by (negsuc 3) (ascii "0.000003") ≡ some (ascii "0.000002")
-  pub part-of-16 : peak_by (negsuc 19) (ascii "0.000016") ≡ some (ascii "0.000001")
-  pub part-of-million : peak_by (negsuc 27) (ascii "1.000000") ≡ some (ascii "0.007813")
+  pub half-of-1 : peak_by (negsuc 3) (ascii "0.000001") ≡ Some (ascii "0.000001")
+  pub half-of-3 : peak_by (negsuc 3) (ascii "0.000003") ≡ Some (ascii "0.000002")
+  pub part-of-16 : peak_by (negsuc 19) (ascii "0.000016") ≡ Some (ascii "0.000001")
+  pub part-of-million : peak_by (negsuc 27) (ascii "1.000000") ≡ Some (ascii "0.007813")
   -- the greatest is 99.999999: a text that would have 100,000,000 millionths or more stays; 0 always moves
-  pub peak-most : peak_by (pos 0) (ascii "99.999999") ≡ some (ascii "99.999999")
-  pub peak-over : peak_by (pos 1) (ascii "99.999999") ≡ none
-  pub peak-hundred : peak_by (pos 4) (ascii "50.000000") ≡ none
-  pub peak-106 : peak_by (pos 106) (ascii "0.000001") ≡ some (ascii "94.906266")
-  pub peak-107 : peak_by (pos 107) (ascii "0.000001") ≡ none
-  pub peak-least : peak_by (negsuc 254) (ascii "99.999999") ≡ some (ascii "0.000000")
-  pub peak-zero : peak_by (pos 255) (ascii "0.000000") ≡ some (ascii "0.000000")
+  pub peak-most : peak_by (pos 0) (ascii "99.999999") ≡ Some (ascii "99.999999")
+  pub peak-over : peak_by (pos 1) (ascii "99.999999") ≡ None
+  pub peak-hundred : peak_by (pos 4) (ascii "50.000000") ≡ None
+  pub peak-106 : peak_by (pos 106) (ascii "0.000001") ≡ Some (ascii "94.906266")
+  pub peak-107 : peak_by (pos 107) (ascii "0.000001") ≡ None
+  pub peak-least : peak_by (negsuc 254) (ascii "99.999999") ≡ Some (ascii "0.000000")
+  pub peak-zero : peak_by (pos 255) (ascii "0.000000") ≡ Some (ascii "0.000000")
   -- a text of another form stays: a sign, 5 or 7 digits behind the point, 3 or none before it
-  pub peak-sign : peak_by (pos 1) (ascii "+1.000000") ≡ none
-  pub peak-five : peak_by (pos 1) (ascii "1.00000") ≡ none
-  pub peak-seven : peak_by (pos 1) (ascii "1.0000000") ≡ none
-  pub peak-three : peak_by (pos 1) (ascii "001.000000") ≡ none
-  pub peak-bare : peak_by (pos 1) (ascii ".500000") ≡ none
+  pub peak-sign : peak_by (pos 1) (ascii "+1.000000") ≡ None
+  pub peak-five : peak_by (pos 1) (ascii "1.00000") ≡ None
+  pub peak-seven : peak_by (pos 1) (ascii "1.0000000") ≡ None
+  pub peak-three : peak_by (pos 1) (ascii "001.000000") ≡ None
+  pub peak-bare : peak_by (pos 1) (ascii ".500000") ≡ None
   -- of a peak that moves and one that stays, one is kept; the one that moves counts as set, and the other keeps its flags; unequal steps keep none
   pub peaks-moved : shift_stored_gain Saturating (pos 1) two_peaks
       ≡ flagged 1 (ascii "REPLAYGAIN_TRACK_PEAK") (ascii "1.189207") ∷ flagged 3 (ascii "replaygain_album_peak") (ascii "0.9") ∷ []
@@ -219,8 +218,8 @@ pub record Examples : Type 0 where
   })
   pub none_kept : peaks_kept (pos 1) (pos 2) two_peaks ≡ 0
   -- a binary value is read as found; one of the reserved type is converted like text
-  pub read-binary : read_tag (serialize (flagged 2 (ascii "AB") (0xFF ∷ []) ∷ [])) ≡ some (flagged 2 (ascii "AB") (0xFF ∷ []) ∷ [])
-  pub read-reserved : read_tag (serialize (flagged 6 (ascii "AB") (0xFF ∷ []) ∷ [])) ≡ some (flagged 6 (ascii "AB") mark ∷ [])
+  pub read-binary : read_tag (serialize (flagged 2 (ascii "AB") (0xFF ∷ []) ∷ [])) ≡ Some (flagged 2 (ascii "AB") (0xFF ∷ []) ∷ [])
+  pub read-reserved : read_tag (serialize (flagged 6 (ascii "AB") (0xFF ∷ []) ∷ [])) ≡ Some (flagged 6 (ascii "AB") mark ∷ [])
   -- 8: bit 31 is set, and the 32 bytes before the items are no header, or one of another version, size or count, or without bit 29
   pub eight-header : remove_plan (headed_by sound) (ascii "AB") 1000 ≡ no NotEditable
   pub eight-version : remove_plan (headed_by (block 1000 44 1 header_flags)) (ascii "AB") 1000 ≡ no NotEditable
@@ -231,12 +230,12 @@ pub record Examples : Type 0 where
   pub headed : remove_plan (headed_by (block 2000 44 1 0x20000000)) (ascii "AB") 1000 ≡ yes []
   pub unheaded : remove_plan (sound ++ (area_bytes ab ++ block 2000 44 1 0)) (ascii "AB") 1000 ≡ yes sound
   -- reading and replacement follow the Rust: they take the 32 bytes of sound for the header
-  pub headless-read : read_tag (headed_by sound) ≡ some ab
+  pub headless-read : read_tag (headed_by sound) ≡ Some ab
   pub headless-replaced : replaced (headed_by sound) ab ≡ serialize ab
   -- 8: a file of 42 items, for remove and undo too; it is read as before
   pub eight-remove : remove_plan (serialize (many 42)) (ascii "AB") 10000 ≡ no NotEditable
   pub eight-undo : undo_plan (serialize (many 41 ++ undo_item (ascii "+003,+003,N"))) (10 ∷ []) [] 10000 ≡ no NotEditable
-  pub eight-read : read_tag (serialize (many 42)) ≡ some (many 42)
+  pub eight-read : read_tag (serialize (many 42)) ≡ Some (many 42)
   -- every match is removed, and nothing is written for no items
   pub removed : remove_plan (0x11 ∷ serialize (item (ascii "ab") (ascii "1") ∷ item (ascii "CD") (ascii "2") ∷ item (ascii "AB") (ascii "3") ∷ [])) (ascii "aB") 1000
       ≡ yes (0x11 ∷ serialize (item (ascii "CD") (ascii "2") ∷ []))
@@ -276,10 +275,10 @@ pub record Examples : Type 0 where
     peaks = 0;
   })
   -- a slip without a mode: the stored flag, W where nothing is stored, and N by a junk text; a written mode is obeyed
-  pub unnamed-n : resolved Unnamed (undo_item (ascii "+003,+003,N")) ≡ Saturating
-  pub unnamed-w : resolved Unnamed [] ≡ Wrapping
-  pub unnamed-junk : resolved Unnamed (undo_item (ascii "junk")) ≡ Saturating
-  pub named : resolved (Named Saturating) (undo_item (ascii "+003,+003,W")) ≡ Saturating
+  pub unnamed-n : resolved None (undo_item (ascii "+003,+003,N")) ≡ Saturating
+  pub unnamed-w : resolved None [] ≡ Wrapping
+  pub unnamed-junk : resolved None (undo_item (ascii "junk")) ≡ Saturating
+  pub named : resolved (Some Saturating) (undo_item (ascii "+003,+003,W")) ≡ Saturating
   -- level by a slip: 13 first; 2 before 7; a slip without a mode wraps where no undo item is, and keeps a stored N; a written N meets 9 in a W file
   pub thirteen : slip_plan (ascii "left=1\n") version1000 [] [] 0 ≡ no MalformedSlip
   pub slip-two : slip_plan (ascii "left=256\nright=0\n") version1000 [] [] 0 ≡ no StepOutOfRange

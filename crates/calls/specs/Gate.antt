@@ -1,6 +1,6 @@
 -- The editing gate (document 01, "Level and undo"; its test of the header is document 02's, request 4), and refusal 6's limits of a tag.
 use Rattle.std.specs.Prelude.{ℕ, ◌+◌, ◌/◌, ◌%◌, Bool, true, false, ◌&&◌, ◌||◌, cond, List, [], ◌∷◌, length, drop, ltb, leb, eqb}
-use Rattle.std.proofs.Math.Option.{Option, none, some}
+use Rattle.std.specs.Prelude.{Option, None, Some}
 use Rattle.lists.specs.Bytes.{starts_with}
 use Rattle.lists.specs.Choice.{found, provided, is_some}
 use Rattle.lists.specs.Le.{read_u32}
@@ -69,7 +69,7 @@ all_valid (t ∷ ts) = item_valid t && all_valid ts
 
 -- the items that it finds: no footer, no items; else exactly `count` items ending at the footer, each of them valid; none: not fit for editing
 unfoldable pub gate_items : List ℕ → Option (List Item)
-gate_items s = footed (find_footer s) (some []) (λ f. cond (fit s f) (provided all_valid (parse (count_at s f) (area_at s f))) none)
+gate_items s = footed (find_footer s) (Some []) (λ f. cond (fit s f) (provided all_valid (parse (count_at s f) (area_at s f))) None)
 
 -- does it pass a file?
 unfoldable pub passes_gate : List ℕ → Bool

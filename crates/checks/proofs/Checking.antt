@@ -1,9 +1,8 @@
 -- Each answer of the two checks by the tests that lead to it.
 use Prim.Native.Nat.{ℕ, ◌≤◌, ◌<◌}
 use mathlib.Core.Path.{◌≡◌, sym, ap, ◌∙◌}
-use mathlib.Core.Logic.{⊎_elim}
 use mathlib.Core.Bool.{Bool, true, false}
-use mathlib.Core.Option.{none, some}
+use Rattle.std.specs.Prelude.{None, Some}
 use mathlib.Core.List.{List}
 use lib.ListN.{length}
 use borrow.Author.Tests.{le-leb, lt-leb}
@@ -16,7 +15,7 @@ use Rattle.items.specs.Items.{is_repeated}
 use Rattle.calls.specs.Gate.{passes_gate, items_of}
 use Rattle.calls.specs.Calls.{Level, stored_undo}
 use Rattle.checks.specs.Checks.{next_undo_plan, level_check, undo_check}
-use Rattle.checks.proofs.Stored.{Unstored}
+use Rattle.checks.proofs.Stored.{Unstored, second, none}
 
 -- ---- level
 
@@ -72,13 +71,14 @@ module _ (file : List ℕ) (gains : Bool) where
         unfolding undo_check
         undo-14 e = rw (le-leb _ _ l, g, p, e)
 
-        undo-10 : is_repeated undo_key (items_of file) ≡ false → stored_undo (items_of file) ≡ none → undo_check file gains ≡ no NoUndo
+        undo-10 : is_repeated undo_key (items_of file) ≡ false → stored_undo (items_of file) ≡ None → undo_check file gains ≡ no NoUndo
         unfolding undo_check
         undo-10 o e = rw (le-leb _ _ l, g, p, o, e)
 
         pub undo-none : {r : Refusal} → Unstored (items_of file) r → undo_check file gains ≡ no r
-        undo-none {r} x = ⊎_elim (λ y. undo-14 y.1 ∙ ap no (sym y.0)) (λ y. undo-10 y.1 y.2 ∙ ap no (sym y.0)) x.why
+        undo-none (second e) = undo-14 e
+        undo-none (none o e) = undo-10 o e
 
-        pub undo-ready : is_repeated undo_key (items_of file) ≡ false → (text : List ℕ) → stored_undo (items_of file) ≡ some text → undo_check file gains ≡ yes text
+        pub undo-ready : is_repeated undo_key (items_of file) ≡ false → (text : List ℕ) → stored_undo (items_of file) ≡ Some text → undo_check file gains ≡ yes text
         unfolding undo_check
         undo-ready o text u = rw (le-leb _ _ l, g, p, o, u)

@@ -1,33 +1,23 @@
 -- Laws of the undo numbers that level stores: refusals 14, 9 and 11.
 use Prim.Native.Nat.{ℕ}
-use mathlib.Core.Path.{◌≡◌, refl, sym, ap, ◌∙◌}
-use mathlib.Core.Bool.{Bool, true, false, cond}
-use mathlib.Core.Option.{get_or}
-use mathlib.Core.Logic.{◌⊎◌, ⊎_elim}
+use lib.IntN.{ℤ}
+use mathlib.Core.Path.{◌≡◌, refl, ap, ◌∙◌}
+use mathlib.Core.Bool.{Bool, true, false}
+use Rattle.std.specs.Prelude.{None, Some, Result, Ok, Err}
 use mathlib.Core.List.{List, []}
 use native.Mathlib.Omega.{arith}
-use denote.Enum.Declared.{tag_of, declared}
 use lib.Signed.{mag}
-use Rattle.lists.specs.Choice.{found}
 use Rattle.integers.specs.declared.Apart.{Apart}
 use Rattle.integers.specs.Apart.{whole_of}
 use Rattle.replies.specs.Refusal.{Plan, no, yes}
 use Rattle.replies.specs.declared.Refusal.{Refusal}
 use Rattle.replies.specs.declared.Refusal.TheVariants.{FlagDiffers, UndoOutOfRange, SecondUndo}
-use Rattle.frame.specs.declared.GainMode.{GainMode}
 use Rattle.values.specs.declared.UndoValues.{UndoValues}
 use Rattle.values.specs.Undo.{accumulated}
 use Rattle.keys.specs.Keys.{undo_key}
 use Rattle.items.specs.Items.{Item, is_repeated}
-use Rattle.items.specs.declared.Found.{Found}
-use Rattle.items.specs.declared.Found.TheVariants.{Value, Nothing, Refused}
-use Rattle.items.specs.Answers.{value_of, is_there, found_repeated}
-use Rattle.items.specs.contracts.Found.{enum}
-use Rattle.items.proofs.Places.{got}
 use Rattle.calls.specs.Calls.{Level, stored_undo, agrees, booked, is_undo_number}
-use Rattle.checks.specs.declared.NextUndo.{NextUndo}
-use Rattle.checks.specs.declared.NextUndo.TheVariants.{Numbers, Refused as NoNumbers}
-use Rattle.checks.specs.Checks.{next_undo_plan, next_undo_answer}
+use Rattle.checks.specs.Checks.{numbers_plan, next_undo_plan, next_undo_answer}
 
 pub by-mag : (a : Apart) → a.by ≡ mag (whole_of a)
 by-mag a = go a.down refl
@@ -36,67 +26,46 @@ by-mag a = go a.down refl
     go true e = rw e
     go false e = rw e
 
--- ---- what the search found, as the stored text
-
--- it found none
-pub record Unfound (f : Found) : Type 0 where
-  pub there : is_there f ≡ false
-  pub repeated : found_repeated f ≡ false
-
-pub unfound : (f : Found) → (tag_of (declared enum) f ≡ 1) ⊎ (tag_of (declared enum) f ≡ 2) → Unfound f
-unfound (Value start n repeated) k = ⊎_elim (λ q. absurd (omega arith)) (λ q. absurd (omega arith)) k
-unfound Nothing k = record { there = refl; repeated = refl }
-unfound (Refused r) k = record { there = refl; repeated = refl }
-
-flag_is : (s : List ℕ) (f : Found) (m : GainMode) → found (got s f) true (agrees m) ≡ cond (is_there f) (agrees m (value_of s f)) true
-flag_is s (Value start n repeated) m = refl
-flag_is s Nothing m = refl
-flag_is s (Refused r) m = refl
-
-text-is : (s : List ℕ) (f : Found) → get_or (got s f) [] ≡ value_of s f
-text-is s (Value start n repeated) = refl
-text-is s Nothing = refl
-text-is s (Refused r) = refl
-
-module _ (s : List ℕ) (f : Found) (l : Level) (ts : List Item) (e : got s f ≡ stored_undo ts) where
-  pub flag-found : {b : Bool} → b ≡ cond (is_there f) (agrees l.mode (value_of s f)) true → found (stored_undo ts) true (agrees l.mode) ≡ b
-  flag-found q = ap (λ o. found o true (agrees l.mode)) (sym e) ∙ flag_is s f l.mode ∙ sym q
-
-  pub numbers-found : {u : UndoValues} → u ≡ accumulated (value_of s f) l.left l.right → booked l ts ≡ u
-  unfolding booked
-  numbers-found q = ap (λ o. accumulated (get_or o []) l.left l.right) (sym e) ∙ ap (λ (t : List ℕ). accumulated t l.left l.right) (text-is s f) ∙ sym q
-
 -- ---- each answer by its tests
+
+module _ (text : List ℕ) (left right : ℤ) (u : UndoValues) (e : u ≡ accumulated text left right) where
+  pub number-left : is_undo_number u.left ≡ false → numbers_plan text left right ≡ no UndoOutOfRange
+  unfolding numbers_plan
+  number-left f = rw (← e, f)
+
+  pub number-right : is_undo_number u.left ≡ true → is_undo_number u.right ≡ false → numbers_plan text left right ≡ no UndoOutOfRange
+  unfolding numbers_plan
+  number-right f g = rw (← e, f, g)
+
+  pub number-both : is_undo_number u.left ≡ true → is_undo_number u.right ≡ true → numbers_plan text left right ≡ yes u
+  unfolding numbers_plan
+  number-both f g = rw (← e, f, g)
 
 module _ (l : Level) (ts : List Item) where
   pub next-14 : is_repeated undo_key ts ≡ true → next_undo_plan l ts ≡ no SecondUndo
   unfolding next_undo_plan
   next-14 e = rw e
 
-module _ (l : Level) (ts : List Item) (o : is_repeated undo_key ts ≡ false) where
-  pub next-9 : found (stored_undo ts) true (agrees l.mode) ≡ false → next_undo_plan l ts ≡ no FlagDiffers
-  unfolding next_undo_plan
-  next-9 e = rw (o, e)
+  module _ (o : is_repeated undo_key ts ≡ false) where
+    pub next-none : stored_undo ts ≡ None → next_undo_plan l ts ≡ numbers_plan [] l.left l.right
+    unfolding next_undo_plan numbers_plan booked
+    next-none e = rw (o, e)
 
-  module _ (e : found (stored_undo ts) true (agrees l.mode) ≡ true) (u : UndoValues) (b : booked l ts ≡ u) where
-    pub next-left : is_undo_number u.left ≡ false → next_undo_plan l ts ≡ no UndoOutOfRange
-    unfolding next_undo_plan
-    next-left f = rw (o, e, b, f)
+    module _ {text : List ℕ} (e : stored_undo ts ≡ Some text) where
+      pub next-9 : agrees l.mode text ≡ false → next_undo_plan l ts ≡ no FlagDiffers
+      unfolding next_undo_plan
+      next-9 f = rw (o, e, f)
 
-    pub next-right : is_undo_number u.left ≡ true → is_undo_number u.right ≡ false → next_undo_plan l ts ≡ no UndoOutOfRange
-    unfolding next_undo_plan
-    next-right f g = rw (o, e, b, f, g)
-
-    pub next_both : is_undo_number u.left ≡ true → is_undo_number u.right ≡ true → next_undo_plan l ts ≡ yes u
-    unfolding next_undo_plan
-    next_both f g = rw (o, e, b, f, g)
+      pub next-some : agrees l.mode text ≡ true → next_undo_plan l ts ≡ numbers_plan text l.left l.right
+      unfolding next_undo_plan numbers_plan booked
+      next-some f = rw (o, e, f)
 
 -- ---- what the answer tells of the plan
 
-pub numbers-yes : (p : Plan UndoValues) {b : NextUndo} {u : UndoValues} → b ≡ next_undo_answer p → b ≡ Numbers u → p ≡ yes u
-numbers-yes (no r) e f = absurd (let z : ◌≡◌ {A = ℕ} 0 1 = cc in omega arith)
-numbers-yes (yes v) {b} {u} e f = let z : v ≡ u = cc in rw z
+pub numbers-yes : (p : Plan UndoValues) {u : UndoValues} → Ok u ≡ next_undo_answer p → p ≡ yes u
+numbers-yes (no r) e = absurd (let z : ◌≡◌ {A = ℕ} 0 1 = cc in omega arith)
+numbers-yes (yes v) {u} e = let z : v ≡ u = cc in rw z
 
-pub numbers-no : (p : Plan UndoValues) {b : NextUndo} {r : Refusal} → b ≡ next_undo_answer p → b ≡ NoNumbers r → p ≡ no r
-numbers-no (no s) {b} {r} e f = let z : s ≡ r = cc in rw z
-numbers-no (yes v) e f = absurd (let z : ◌≡◌ {A = ℕ} 0 1 = cc in omega arith)
+pub numbers-no : (p : Plan UndoValues) {r : Refusal} → Err r ≡ next_undo_answer p → p ≡ no r
+numbers-no (no s) {r} e = let z : s ≡ r = cc in rw z
+numbers-no (yes v) e = absurd (let z : ◌≡◌ {A = ℕ} 0 1 = cc in omega arith)

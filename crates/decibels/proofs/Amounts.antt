@@ -1,8 +1,8 @@
 -- Laws of amounts: differences by their signs, in millionths and what is left of one.
-use Prim.Native.Nat.{ℕ, zero, suc, ◌+◌, ◌-◌, ◌*◌, ◌/◌, ◌%◌, ◌≤◌, ◌<◌}
+use Prim.Native.Nat.{ℕ, zero, suc, ◌+◌, ◌*◌, ◌/◌, ◌%◌, ◌<◌}
 use native.Mathlib.Omega.{arith}
 use mathlib.Core.Path.{◌≡◌, refl, sym, ap, ◌∙◌}
-use mathlib.Core.Bool.{Bool, true, false, not}
+use mathlib.Core.Bool.{Bool, true, false, not, beq}
 use lib.IntN.{ℤ, pos, negsuc, nat_abs, ◌-ℤ◌, ◌*ℤ◌}
 use Rattle.integers.proofs.Parts.{up, down, neg-up, neg-down}
 use Rattle.number.specs.Reading.{with_sign}
@@ -18,17 +18,23 @@ up-sign n = (neg-up (pos n), neg-down (pos n))
 -- ---- differences
 
 module _ (x y : ℕ) where
-  pub same-high : (minus : Bool) → y ≤ x → with_sign minus x -ℤ with_sign minus y ≡ with_sign minus (x - y)
-  same-high true h = differ (with_sign true x) (with_sign true y) (with_sign true (x - y)) (omega (arith, up-sign x, up-sign y, up-sign (x - y)))
-  same-high false h = differ (pos x) (pos y) (pos (x - y)) (omega arith)
-
-  pub same_low : (minus : Bool) → x ≤ y → with_sign minus x -ℤ with_sign minus y ≡ with_sign (not minus) (y - x)
-  same_low true h = differ (with_sign true x) (with_sign true y) (pos (y - x)) (omega (arith, up-sign x, up-sign y))
-  same_low false h = differ (pos x) (pos y) (with_sign true (y - x)) (omega (arith, up-sign (y - x)))
-
   pub other_sign : (minus : Bool) → with_sign minus x -ℤ with_sign (not minus) y ≡ with_sign minus (x + y)
   other_sign true = differ (with_sign true x) (pos y) (with_sign true (x + y)) (omega (arith, up-sign x, up-sign (x + y)))
   other_sign false = differ (pos x) (with_sign true y) (pos (x + y)) (omega (arith, up-sign y))
+
+-- ---- two signs compared
+
+pub same-sign : (a b : Bool) → beq a b ≡ true → b ≡ a
+same-sign true true e = refl
+same-sign true false e = cc
+same-sign false true e = cc
+same-sign false false e = refl
+
+pub not-same-sign : (a b : Bool) → beq a b ≡ false → b ≡ not a
+not-same-sign true true e = cc
+not-same-sign true false e = refl
+not-same-sign false true e = refl
+not-same-sign false false e = cc
 
 -- ---- amounts by their sign and size
 

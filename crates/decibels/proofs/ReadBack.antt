@@ -4,7 +4,7 @@ use native.Mathlib.Omega.{arith}
 use mathlib.Core.Path.{◌≡◌, refl, sym, ap}
 use mathlib.Core.Logic.{◌≢◌}
 use mathlib.Core.Bool.{Bool, true, false}
-use mathlib.Core.Option.{some}
+use Rattle.std.specs.Prelude.{Some}
 use mathlib.Core.List.{List, ◌∷◌, ◌++◌}
 use lib.ListN.{length, length-append}
 use lib.Seq.{take_at, drop_at}
@@ -39,7 +39,7 @@ plain-gain a =
 point : (x : ℕ) → Mark x → x ≢ 46
 point x h = h.no-point
 
-fraction-back : (n : ℕ) → n < 1000000 → fraction (places 6 n ++ ascii " dB") ≡ some n
+fraction-back : (n : ℕ) → n < 1000000 → fraction (places 6 n ++ ascii " dB") ≡ Some n
 unfolding fraction same
 fraction-back n h =
     let f : List ℕ = places 6 n in
@@ -51,7 +51,7 @@ fraction-back n h =
     )
 
 millionths-back : (n : ℕ) → n < 10000000000
-    → millionths (decimal 1 9 (n / 1000000) ++ (46 ∷ (places 6 (n % 1000000) ++ ascii " dB"))) ≡ some n
+    → millionths (decimal 1 9 (n / 1000000) ++ (46 ∷ (places 6 (n % 1000000) ++ ascii " dB"))) ≡ Some n
 unfolding millionths
 millionths-back n h =
     let a : ℕ = n / 1000000 in
@@ -65,15 +65,15 @@ millionths-back n h =
       natural-decimal 1 9 a (omega arith) (omega arith),
       fraction-back b (omega arith),
     )
-    (ap some (omega arith))
+    (ap Some (omega arith))
 
 gain-sign : (minus : Bool) (s : List ℕ) → (is_minus (sign_byte minus ∷ s) ≡ minus) × (unsigned (sign_byte minus ∷ s) ≡ s)
 unfolding is_minus unsigned
 gain-sign true s = (refl, refl)
 gain-sign false s = (refl, refl)
 
-pub gain-back : (a : Millionths) → a.1 < 10000000000 → a.2 ≡ 0 → parse_gain (format_gain a) ≡ some a
+pub gain-back : (a : Millionths) → a.1 < 10000000000 → a.2 ≡ 0 → parse_gain (format_gain a) ≡ Some a
 unfolding parse_gain format_gain
 gain-back a h z =
     let s : List ℕ = decimal 1 9 (a.1 / 1000000) ++ (46 ∷ (places 6 (a.1 % 1000000) ++ ascii " dB")) in
-    rw ((gain-sign a.0 s).0, (gain-sign a.0 s).1, millionths-back a.1 h) (ap (λ (k : ℕ). some (record { 0 = a.0; 1 = a.1; 2 = k })) (sym z))
+    rw ((gain-sign a.0 s).0, (gain-sign a.0 s).1, millionths-back a.1 h) (ap (λ (k : ℕ). Some (record { 0 = a.0; 1 = a.1; 2 = k })) (sym z))

@@ -1,14 +1,12 @@
 -- Gain texts and decibels (document 01, "Numbers in tags"). Amounts are exact, in units of 10^-15 dB.
 use Rattle.std.specs.Prelude.{ℕ, zero, suc, ◌+◌, ◌*◌, ◌/◌, ◌%◌, Bool, true, false, ◌&&◌, ◌||◌, cond, List, [], ◌∷◌, ◌++◌, length, take, drop, leb, ℤ, pos, negsuc, nat_abs, ◌-ℤ◌, ◌*ℤ◌}
-use Rattle.std.proofs.Math.Option.{Option, none, some, map}
+use Rattle.std.specs.Prelude.{Option, None, option_map}
 use Rattle.lists.specs.Bytes.{ascii, same}
 use Rattle.lists.specs.Choice.{found}
 use Rattle.number.specs.Fields.{before, behind}
 use Rattle.number.specs.Reading.{natural, is_minus, unsigned, with_sign}
 use Rattle.decimal.specs.Writing.{places, decimal, sign_byte}
 use Rattle.decibels.specs.declared.Millionths.{Millionths}
-use Rattle.decibels.specs.declared.Count as c
-use Rattle.decibels.specs.declared.GainField as g
 
 -- ---- amounts of decibels
 
@@ -54,19 +52,19 @@ is_unit s = same s [] || same s (ascii " dB")
 
 -- behind the point: 6 digits, and nothing or ` dB`
 unfoldable pub fraction : List ℕ → Option ℕ
-fraction s = cond (leb 6 (length s) && is_unit (drop 6 s)) (natural (take 6 s)) none
+fraction s = cond (leb 6 (length s) && is_unit (drop 6 s)) (natural (take 6 s)) None
 
 -- 1 to 4 digits, a point, and what follows it
 unfoldable pub millionths : List ℕ → Option ℕ
 millionths s =
-    found (behind 0x2E s) none (λ t.
+    found (behind 0x2E s) None (λ t.
     cond (leb (length (before 0x2E s)) 4)
-    (found (natural (before 0x2E s)) none (λ a. map (λ b. a * 1000000 + b) (fraction t)))
-    none)
+    (found (natural (before 0x2E s)) None (λ a. option_map (λ b. a * 1000000 + b) (fraction t)))
+    None)
 
 -- an optional sign in front
 unfoldable pub parse_gain : List ℕ → Option Millionths
-parse_gain s = map (λ n. record { 0 = is_minus s; 1 = n; 2 = 0 }) (millionths (unsigned s))
+parse_gain s = option_map (λ n. record { 0 = is_minus s; 1 = n; 2 = 0 }) (millionths (unsigned s))
 
 -- `{:+.6} dB`, for ten digits before the point at the most
 unfoldable pub format_gain : Millionths → List ℕ
@@ -74,16 +72,4 @@ format_gain a = sign_byte a.0 ∷ (decimal 1 9 (a.1 / 1000000) ++ (0x2E ∷ (pla
 
 -- the new text; a text of another form stays as found
 unfoldable pub shift_gain : ℤ → List ℕ → Option (List ℕ)
-shift_gain steps s = map (λ g. format_gain (nearest (remaining steps g))) (parse_gain s)
-
--- ---- answers of the code
-
--- a count of millionths, as the code answers it
-abbrev pub count_is : Option ℕ → c.Count
-count_is none = c.TheVariants.Nothing
-count_is (some n) = c.TheVariants.Value n
-
--- a gain text read, as the code answers it
-abbrev pub gain_is : Option Millionths → g.GainField
-gain_is none = g.TheVariants.Nothing
-gain_is (some a) = g.TheVariants.Value a
+shift_gain steps s = option_map (λ g. format_gain (nearest (remaining steps g))) (parse_gain s)

@@ -5,7 +5,7 @@ use native.Mathlib.Nat.{add-zero, add-suc, suc-add, pow-le-pow_right}
 use mathlib.Core.Path.{◌≡◌, refl, sym, ap, ◌∙◌}
 use mathlib.Core.Logic.{◌≢◌}
 use mathlib.Core.Bool.{Bool, true, false, cond}
-use mathlib.Core.Option.{some}
+use Rattle.std.specs.Prelude.{Some}
 use mathlib.Core.List.{List, [], ◌∷◌, ◌++◌, append_assoc, append-nil}
 use lib.ListN.{length}
 use lib.Dec.{ltb}
@@ -62,7 +62,7 @@ module _ (c : ℕ) (ends : (x : ℕ) → Mark x → x ≢ c) (b : List ℕ) wher
   before-marks [] m = rw (eq-eqb c c refl)
   before-marks (x ∷ a) (h, m) = rw (ne_eqb x c (ends x h)) (ap (λ s. x ∷ s) (before-marks a m))
 
-  pub behind-marks : (a : List ℕ) → Marks a → behind c (a ++ (c ∷ b)) ≡ some b
+  pub behind-marks : (a : List ℕ) → Marks a → behind c (a ++ (c ∷ b)) ≡ Some b
   unfolding behind
   behind-marks [] m = rw (eq-eqb c c refl)
   behind-marks (x ∷ a) (h, m) = rw (ne_eqb x c (ends x h)) (behind-marks a m)
@@ -99,30 +99,30 @@ places-read (suc k) n s h =
     rw (append_assoc, places-read k (n / 10) (d ∷ s) (omega arith), le-leb 48 d (omega arith), le-leb d 57 (omega arith))
     (ap (λ m. digits_from m s) (omega arith))
 
-pub natural-places : (k n : ℕ) → 1 ≤ k → n < 10 ^ k → natural (places k n) ≡ some n
+pub natural-places : (k n : ℕ) → 1 ≤ k → n < 10 ^ k → natural (places k n) ≡ Some n
 unfolding digits_from
 natural-places k n h b =
     natural-is (places k n) (λ e. absurd (omega (arith, length-places k n)))
     ∙ ap (λ s. digits_from 0 s) (sym (append-nil (places k n)))
     ∙ places-read k n [] b
 
-pub natural-decimal : (k m n : ℕ) → 1 ≤ k → n < 10 ^ (k + m) → natural (decimal k m n) ≡ some n
+pub natural-decimal : (k m n : ℕ) → 1 ≤ k → n < 10 ^ (k + m) → natural (decimal k m n) ≡ Some n
 unfolding decimal
 natural-decimal k zero n h b = natural-places k n h (rw add-zero at b)
 natural-decimal k (suc m) n h b = go (ltb n (10 ^ k)) refl (natural-decimal (suc k) m n (omega arith) (rw (add-suc, ← suc-add) at b))
   where
-    go : (t : Bool) → ltb n (10 ^ k) ≡ t → natural (decimal (suc k) m n) ≡ some n → natural (cond t (places k n) (decimal (suc k) m n)) ≡ some n
+    go : (t : Bool) → ltb n (10 ^ k) ≡ t → natural (decimal (suc k) m n) ≡ Some n → natural (cond t (places k n) (decimal (suc k) m n)) ≡ Some n
     go true e i = natural-places k n h (ltb-true n (10 ^ k) e)
     go false e i = i
 
 -- ---- signed numbers read back
 
-pub whole-signed : (z : ℤ) → nat_abs z < 10000000000 → whole (signed z) ≡ some z
+pub whole-signed : (z : ℤ) → nat_abs z < 10000000000 → whole (signed z) ≡ Some z
 unfolding whole signed unsigned is_minus
 whole-signed (pos n) h = rw (natural-decimal 3 7 n (omega arith) h)
 whole-signed (negsuc n) h = rw (natural-decimal 3 7 (suc n) (omega arith) h)
 
-pub i32-signed : (z : ℤ) → mag z < 2147483648 → i32 (signed z) ≡ some z
+pub i32-signed : (z : ℤ) → mag z < 2147483648 → i32 (signed z) ≡ Some z
 unfolding i32
 i32-signed z h =
     rw (trim-marks (signed z) (marks-signed z), whole-signed z (omega (arith, nat_abs-le z h)), lt-ltb (mag z) 2147483648 h)
@@ -135,12 +135,12 @@ places-plain n =
     let d : ℕ = 48 + n / 10 / 10 % 10 in
     rw (ne_eqb d 43 (omega arith), ne_eqb d 45 (omega arith)) (refl, refl)
 
-pub u8-places : (n : ℕ) → n < 256 → u8 (places 3 n) ≡ some n
+pub u8-places : (n : ℕ) → n < 256 → u8 (places 3 n) ≡ Some n
 unfolding u8
 u8-places n h =
     rw (trim-marks (places 3 n) (marks-places 3 n), (places-plain n).0, (places-plain n).1, natural-places 3 n (omega arith) (omega arith), le-leb n 255 (omega arith))
 
-pub i32-places : (n : ℕ) → n < 256 → i32 (places 3 n) ≡ some (pos n)
+pub i32-places : (n : ℕ) → n < 256 → i32 (places 3 n) ≡ Some (pos n)
 unfolding i32 whole
 i32-places n h =
     rw (trim-marks (places 3 n) (marks-places 3 n), (places-plain n).0, (places-plain n).1, natural-places 3 n (omega arith) (omega arith), lt-ltb n 2147483648 (omega arith))

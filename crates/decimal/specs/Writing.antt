@@ -1,9 +1,7 @@
 -- Whole numbers written (document 01, "Numbers in tags").
 use Rattle.std.specs.Prelude.{ℕ, zero, suc, ◌+◌, ◌/◌, ◌%◌, ◌^◌, Bool, true, false, cond, List, [], ◌∷◌, ◌++◌, length, replicate, ltb, ℤ, pos, negsuc, nat_abs}
-use Rattle.std.proofs.Math.Option.{Option, none, some}
 use Rattle.lists.specs.Write.{over}
 use Rattle.decimal.specs.declared.Text.{Text}
-use Rattle.decimal.specs.declared.Shifted.{Shifted}
 
 -- the last k digits of n
 unfoldable pub places : ℕ → ℕ → List ℕ
@@ -31,8 +29,3 @@ signed z = sign_byte (is_negative z) ∷ decimal 3 7 (nat_abs z)
 -- a text of at most 32 bytes, as code hands it out
 abbrev pub text_of : List ℕ → Text
 text_of w = record { bytes = over w (replicate 32 0); len = length w }
-
--- a new text, or none where the old one stays as found, as code hands it out
-abbrev pub shifted_is : Option (List ℕ) → Shifted
-shifted_is none = record { moved = false; text = text_of [] }
-shifted_is (some w) = record { moved = true; text = text_of w }

@@ -1,35 +1,24 @@
 // Whole numbers written, and the texts that hold them. Nothing here knows a tag.
 #![tactic(auto)]
 
-ghost use Rattle.std.specs.Prelude.{◌≡◌, ◌+◌, ◌-◌, ◌≤◌, ◌^◌, length};
-ghost use Rattle.std.proofs.Math.Option.{none};
+ghost use Rattle.std.specs.Prelude.{◌≡◌, ◌+◌, ◌-◌, ◌≤◌, ◌^◌, length, take};
 ghost use Rattle.lists.specs.Write.{splice};
 ghost use Rattle.decimal.specs.Writing as W;
 
-// A text that was written: its bytes, zeros behind them, and how many there are.
+// A text that was written: its bytes, zeros behind them, and how many there are. There is no heap, so its room is fixed; `as_slice` is the text.
 #[derive(Clone, Copy)]
 pub struct Text {
     pub bytes: [u8; 32],
     pub len: usize,
 }
 
-// A text after a change: its new bytes, or that it stays as found.
-#[derive(Clone, Copy)]
-pub struct Shifted {
-    pub moved: bool,
-    pub text: Text,
-}
-
-// A text that stays as found.
-pub fn as_found() -> Shifted
-    ensures { result ≡ W.shifted_is none }
-{
-    Shifted {
-        moved: false,
-        text: Text {
-            bytes: [0u8; 32],
-            len: 0,
-        },
+impl Text {
+    // The bytes that were written.
+    pub fn as_slice(&self) -> &[u8]
+        requires { self.now.len ≤ length self.now.bytes }
+        ensures { result.now ≡ take self.now.len self.now.bytes }
+    {
+        &self.bytes[..self.len]
     }
 }
 
@@ -38,17 +27,14 @@ fn width(n: u32, least: usize, most: usize, past: u64) -> usize
     requires { (least ≤ most) × (past ≡ 10 ^ least) }
     ensures { (result ≤ most) × (W.decimal least (most - least) n ≡ W.places result n) }
 {
-    let number = n as u64;
     let mut p = past;
-    let mut k = least;
-    while k < most {
-        if number < p {
+    for k in least..most {
+        if u64::from(n) < p {
             return k;
         }
-        k += 1;
         p *= 10;
     }
-    k
+    most
 }
 
 // Writes the last `k` digits of `n` into `out` from `at`, and answers where they end.
@@ -57,9 +43,7 @@ pub fn put_places(out: &mut [u8], at: usize, k: usize, n: u32) -> usize
     ensures { (result ≡ at + length (W.places k n)) × (out.new ≡ splice out.old at (W.places k n)) }
 {
     let mut rest = n;
-    let mut i = k;
-    while 0 < i {
-        i -= 1;
+    for i in (0..k).rev() {
         out[at + i] = (48 + rest % 10) as u8;
         rest /= 10;
     }
@@ -72,18 +56,14 @@ pub fn put_decimal(out: &mut [u8], at: usize, n: u32, least: usize, most: usize,
     ensures { (result ≡ at + length (W.decimal least (most - least) n))
         × (out.new ≡ splice out.old at (W.decimal least (most - least) n)) × (result ≤ at + most) }
 {
-    let k = width(n, least, most, past);
-    put_places(out, at, k, n)
+    put_places(out, at, width(n, least, most, past), n)
 }
 
 // The byte of a sign.
 pub fn sign_byte(minus: bool) -> u8
     ensures { result ≡ W.sign_byte minus }
 {
-    if minus {
-        return b'-';
-    }
-    b'+'
+    if minus { b'-' } else { b'+' }
 }
 
 // Writes `n` as `{:+04}` does.
@@ -91,7 +71,6 @@ pub fn put_signed(out: &mut [u8], at: usize, n: i32) -> usize
     requires { at + 11 ≤ length out.old }
     ensures { (result ≡ at + length (W.signed n)) × (out.new ≡ splice out.old at (W.signed n)) × (result ≤ at + 11) }
 {
-    let a = integers::take_apart(n);
-    out[at] = sign_byte(a.down);
-    put_decimal(out, at + 1, number::magnitude(a), 3, 10, 1000)
+    out[at] = sign_byte(n < 0);
+    put_decimal(out, at + 1, n.unsigned_abs(), 3, 10, 1000)
 }

@@ -1,30 +1,22 @@
 // Replays the recorded answers for crates edit, level, level_slip, undo and area_shift.
 #![tactic(auto)]
 
-use ape_write::Written;
-use area_edit::Edited;
 use frame::{GainMode, GainSteps};
-use gate::Editable;
-use level::LevelAnswer;
+use gains::Moving;
+use level::Leveled;
 use replies::Refusal;
 use std::io;
-use vectors::Replay;
-use words::is_hex;
 
 // Whether an answer is that of the two words from this place: `0` and the file, or the number of a refusal and `-`.
-fn answered(text: &[u8], at: usize, w: Written, out: &[u8]) -> bool {
+fn answered(text: &[u8], at: usize, w: Result<usize, Refusal>, out: &[u8]) -> bool {
     let reply = words::unsigned(text, at);
     match w {
-        Written::Done(n) => {
-            if reply != 0 {
-                return false;
-            }
-            if out.len() < n {
-                return false;
-            }
-            is_hex(text, words::next_word(text, at), &out[0..n])
+        Ok(n) => {
+            reply == 0
+                && n <= out.len()
+                && words::is_hex(text, words::next_word(text, at), &out[..n])
         }
-        Written::Refused(r) => reply == replies::number(r) as u64,
+        Err(r) => reply == u64::from(replies::number(r)),
     }
 }
 
@@ -39,7 +31,7 @@ fn set(text: &[u8], at: usize) -> bool {
     let mut value = [0u8; 256];
     let v = words::hex_bytes(text, value_at, &mut value);
     let mut out = [0u8; 4096];
-    let w = edit::set_ape_item(&file[0..n], &key[0..k], &value[0..v], &mut out);
+    let w = edit::set_ape_item(&file[..n], &key[..k], &value[..v], &mut out);
     answered(text, words::next_word(text, value_at), w, &out)
 }
 
@@ -51,7 +43,7 @@ fn remove(text: &[u8], at: usize) -> bool {
     let mut key = [0u8; 256];
     let k = words::hex_bytes(text, key_at, &mut key);
     let mut out = [0u8; 4096];
-    let w = edit::remove_ape_item(&file[0..n], &key[0..k], &mut out);
+    let w = edit::remove_ape_item(&file[..n], &key[..k], &mut out);
     answered(text, words::next_word(text, key_at), w, &out)
 }
 
@@ -59,30 +51,15 @@ fn remove(text: &[u8], at: usize) -> bool {
 fn left_behind(
     text: &[u8],
     at: usize,
-    a: LevelAnswer,
+    a: Result<Leveled, Refusal>,
     out: &[u8],
     left: &[u8],
     right: &[u8],
 ) -> bool {
-    let w = match a {
-        LevelAnswer::Done { length, peaks: _ } => Written::Done(length),
-        LevelAnswer::Refused(reason) => Written::Refused(reason),
-    };
-    if !answered(text, at, w, out) {
-        return false;
-    }
     let left_after = words::next_word(text, words::next_word(text, at));
-    if !is_hex(text, left_after, left) {
-        return false;
-    }
-    is_hex(text, words::next_word(text, left_after), right)
-}
-
-// Whether undo answers the four words from this place.
-fn undone(text: &[u8], at: usize, file: &[u8], left: &mut [u8], right: &mut [u8]) -> bool {
-    let mut out = [0u8; 4096];
-    let u = undo::undo(file, left, right, &mut out);
-    left_behind(text, at, u, &out, left, right)
+    answered(text, at, a.map(|done| done.length), out)
+        && words::is_hex(text, left_after, left)
+        && words::is_hex(text, words::next_word(text, left_after), right)
 }
 
 // `undo FILE LEFT RIGHT REPLY FILE LEFT RIGHT`.
@@ -92,53 +69,29 @@ fn undo(text: &[u8], at: usize) -> bool {
     let left_at = words::next_word(text, at);
     let mut left = [0u8; 64];
     let l = words::hex_bytes(text, left_at, &mut left);
+    let left = &mut left[..l];
     let right_at = words::next_word(text, left_at);
     let mut right = [0u8; 64];
     let r = words::hex_bytes(text, right_at, &mut right);
-    undone(
-        text,
-        words::next_word(text, right_at),
-        &file[0..n],
-        &mut left[0..l],
-        &mut right[0..r],
-    )
+    let right = &mut right[..r];
+    let mut out = [0u8; 4096];
+    let a = undo::undo(&file[..n], left, right, &mut out);
+    left_behind(text, words::next_word(text, right_at), a, &out, left, right)
 }
 
 // Whether an answer is that of the five words from this place: those of undo and the number of peak items, 0 where it is refused.
 fn is_levelled(
     text: &[u8],
     at: usize,
-    a: LevelAnswer,
+    a: Result<Leveled, Refusal>,
     out: &[u8],
     left: &[u8],
     right: &[u8],
 ) -> bool {
-    if !left_behind(text, at, a, out, left, right) {
-        return false;
-    }
-    let n = match a {
-        LevelAnswer::Done { length: _, peaks } => peaks,
-        LevelAnswer::Refused(_) => 0,
-    };
     let left_after = words::next_word(text, words::next_word(text, at));
     let peaks_at = words::next_word(text, words::next_word(text, left_after));
-    words::unsigned(text, peaks_at) == n as u64
-}
-
-// Whether level answers the five words from this place.
-fn levelled(
-    text: &[u8],
-    at: usize,
-    file: &[u8],
-    left: &mut [u8],
-    right: &mut [u8],
-    left_steps: GainSteps,
-    right_steps: GainSteps,
-    mode: GainMode,
-    out: &mut [u8],
-) -> bool {
-    let a = level::level(file, left, right, left_steps, right_steps, mode, out);
-    is_levelled(text, at, a, out, left, right)
+    let peaks = a.map_or(0, |done| done.peaks);
+    left_behind(text, at, a, out, left, right) && words::unsigned(text, peaks_at) == peaks as u64
 }
 
 // `level FILE LEFT RIGHT STEPS STEPS FLAG ROOM REPLY FILE LEFT RIGHT PEAKS`.
@@ -148,9 +101,11 @@ fn level(text: &[u8], at: usize) -> bool {
     let left_at = words::next_word(text, at);
     let mut left = [0u8; 64];
     let l = words::hex_bytes(text, left_at, &mut left);
+    let left = &mut left[..l];
     let right_at = words::next_word(text, left_at);
     let mut right = [0u8; 64];
     let r = words::hex_bytes(text, right_at, &mut right);
+    let right = &mut right[..r];
     let steps_at = words::next_word(text, right_at);
     let right_steps_at = words::next_word(text, steps_at);
     let flag_at = words::next_word(text, right_steps_at);
@@ -160,31 +115,14 @@ fn level(text: &[u8], at: usize) -> bool {
     if out.len() < room {
         return false;
     }
-    levelled(
-        text,
-        words::next_word(text, room_at),
-        &file[0..n],
-        &mut left[0..l],
-        &mut right[0..r],
-        GainSteps(words::signed(text, steps_at)),
-        GainSteps(words::signed(text, right_steps_at)),
-        GainMode::from_wrap(lists::starts_with(text, flag_at, b"W")),
-        &mut out[0..room],
-    )
-}
-
-// Whether level by a slip answers the five words from this place.
-fn levelled_by_slip(
-    text: &[u8],
-    at: usize,
-    slip: &[u8],
-    file: &[u8],
-    left: &mut [u8],
-    right: &mut [u8],
-) -> bool {
-    let mut out = [0u8; 4096];
-    let a = level_slip::level_by_slip(slip, file, left, right, &mut out);
-    is_levelled(text, at, a, &out, left, right)
+    let out = &mut out[..room];
+    let moves = Moving {
+        left: GainSteps(words::signed(text, steps_at)),
+        right: GainSteps(words::signed(text, right_steps_at)),
+        mode: GainMode::from_wrap(lists::starts_with(text, flag_at, b"W")),
+    };
+    let a = level::level(&file[..n], left, right, moves, out);
+    is_levelled(text, words::next_word(text, room_at), a, out, left, right)
 }
 
 // `by_slip SLIP FILE LEFT RIGHT REPLY FILE LEFT RIGHT PEAKS`.
@@ -197,49 +135,17 @@ fn by_slip(text: &[u8], at: usize) -> bool {
     let left_at = words::next_word(text, file_at);
     let mut left = [0u8; 64];
     let l = words::hex_bytes(text, left_at, &mut left);
+    let left = &mut left[..l];
     let right_at = words::next_word(text, left_at);
     let mut right = [0u8; 64];
     let r = words::hex_bytes(text, right_at, &mut right);
-    levelled_by_slip(
-        text,
-        words::next_word(text, right_at),
-        &slip[0..m],
-        &file[0..n],
-        &mut left[0..l],
-        &mut right[0..r],
-    )
+    let right = &mut right[..r];
+    let mut out = [0u8; 4096];
+    let a = level_slip::level_by_slip(&slip[..m], &file[..n], left, right, &mut out);
+    is_levelled(text, words::next_word(text, right_at), a, &out, left, right)
 }
 
-// Whether a shift answers the three words from this place: the reply, the area and the count of its items, 0 where it is refused.
-fn shifted(
-    text: &[u8],
-    at: usize,
-    area: &[u8],
-    count: usize,
-    steps: GainSteps,
-    mode: GainMode,
-    out: &mut [u8],
-) -> bool {
-    let e = area_shift::shift_stored_gain(area, count, steps, mode, out);
-    let w = match e {
-        Edited::Done { count: _, length } => Written::Done(length),
-        Edited::Refused(reason) => Written::Refused(reason),
-    };
-    if !answered(text, at, w, out) {
-        return false;
-    }
-    let n = match e {
-        Edited::Done {
-            count: items,
-            length: _,
-        } => items,
-        Edited::Refused(_) => 0,
-    };
-    let count_at = words::next_word(text, words::next_word(text, at));
-    words::unsigned(text, count_at) == n as u64
-}
-
-// `shift AREA COUNT STEPS FLAG ROOM REPLY AREA COUNT`.
+// `shift AREA COUNT STEPS FLAG ROOM REPLY AREA COUNT`; the last count is that of the items, 0 where it is refused.
 fn shift(text: &[u8], at: usize) -> bool {
     let mut area = [0u8; 2048];
     let n = words::hex_bytes(text, at, &mut area);
@@ -252,15 +158,19 @@ fn shift(text: &[u8], at: usize) -> bool {
     if out.len() < room {
         return false;
     }
-    shifted(
-        text,
-        words::next_word(text, room_at),
-        &area[0..n],
+    let out = &mut out[..room];
+    let e = area_shift::shift_stored_gain(
+        &area[..n],
         words::unsigned(text, count_at) as usize,
         GainSteps(words::signed(text, steps_at)),
         GainMode::from_wrap(lists::starts_with(text, flag_at, b"W")),
-        &mut out[0..room],
-    )
+        out,
+    );
+    let reply_at = words::next_word(text, room_at);
+    let items_at = words::next_word(text, words::next_word(text, reply_at));
+    let items = e.map_or(0, |size| size.count);
+    answered(text, reply_at, e.map(|size| size.length), out)
+        && words::unsigned(text, items_at) == items as u64
 }
 
 // `gate FILE REPLY START END COUNT`, the last three 0 where it is refused.
@@ -269,61 +179,44 @@ fn gate(text: &[u8], at: usize) -> bool {
     let n = words::hex_bytes(text, at, &mut file);
     let reply_at = words::next_word(text, at);
     let reply = words::unsigned(text, reply_at);
-    let g = gate::gate(&file[0..n]);
-    let Editable::Items { start, end, count } = g else {
-        return reply == replies::number(Refusal::NotEditable) as u64;
-    };
-    if reply != 0 {
-        return false;
-    }
     let start_at = words::next_word(text, reply_at);
-    if words::unsigned(text, start_at) != start as u64 {
-        return false;
-    }
     let end_at = words::next_word(text, start_at);
-    if words::unsigned(text, end_at) != end as u64 {
-        return false;
+    let count_at = words::next_word(text, end_at);
+    match gate::gate(&file[..n]) {
+        Ok(area) => {
+            reply == 0
+                && words::unsigned(text, start_at) == area.start as u64
+                && words::unsigned(text, end_at) == area.end as u64
+                && words::unsigned(text, count_at) == area.count as u64
+        }
+        Err(r) => reply == u64::from(replies::number(r)),
     }
-    words::unsigned(text, words::next_word(text, end_at)) == count as u64
 }
 
 // Whether the answer in the line at this place is the library's.
 fn agrees(text: &[u8], at: usize) -> bool {
     let from = words::next_word(text, at);
     if lists::starts_with(text, at, b"set ") {
-        return set(text, from);
+        set(text, from)
+    } else if lists::starts_with(text, at, b"remove ") {
+        remove(text, from)
+    } else if lists::starts_with(text, at, b"undo ") {
+        undo(text, from)
+    } else if lists::starts_with(text, at, b"level ") {
+        level(text, from)
+    } else if lists::starts_with(text, at, b"by_slip ") {
+        by_slip(text, from)
+    } else if lists::starts_with(text, at, b"shift ") {
+        shift(text, from)
+    } else if lists::starts_with(text, at, b"gate ") {
+        gate(text, from)
+    } else {
+        false
     }
-    if lists::starts_with(text, at, b"remove ") {
-        return remove(text, from);
-    }
-    if lists::starts_with(text, at, b"undo ") {
-        return undo(text, from);
-    }
-    if lists::starts_with(text, at, b"level ") {
-        return level(text, from);
-    }
-    if lists::starts_with(text, at, b"by_slip ") {
-        return by_slip(text, from);
-    }
-    if lists::starts_with(text, at, b"shift ") {
-        return shift(text, from);
-    }
-    if lists::starts_with(text, at, b"gate ") {
-        return gate(text, from);
-    }
-    false
-}
-
-fn replay(text: &[u8]) -> Replay {
-    let mut r = vectors::start(text);
-    while r.at < text.len() {
-        r = vectors::counted(text, r, agrees(text, r.at));
-    }
-    r
 }
 
 fn main(rt: HostRuntime) -> io::Result<()> {
     let mut text = vectors::buffer();
     let n = input::read_full(&rt, &mut text)?;
-    vectors::report(&rt, b"edit", replay(&text[..n]))
+    vectors::report(&rt, b"edit", vectors::replay_all(&text[..n], agrees))
 }

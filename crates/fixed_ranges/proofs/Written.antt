@@ -3,7 +3,7 @@ use Prim.Native.Nat.{ℕ, ◌+◌, ◌/◌, ◌%◌, ◌<◌}
 use native.Mathlib.Omega.{arith}
 use mathlib.Core.Path.{◌≡◌, refl}
 use mathlib.Core.Bool.{true}
-use mathlib.Core.Option.{some}
+use Rattle.std.specs.Prelude.{Some}
 use mathlib.Core.List.{◌∷◌, ◌++◌}
 use lib.Seq.{take_at}
 use borrow.Author.Tests.{le-leb, eq-eqb}
@@ -28,7 +28,7 @@ all_digits : (n : ℕ) → digits_of (places 3 n) ≡ places 3 n
 unfolding digits_of places
 all_digits n = rw (digit (n / 10 / 10), digit (n / 10), digit n)
 
-number_of : (n : ℕ) → n < 1000 → leading (places 3 n) ≡ some n
+number_of : (n : ℕ) → n < 1000 → leading (places 3 n) ≡ Some n
 unfolding leading
 number_of n h = rw (all_digits n) (natural-places 3 n (omega arith) (omega arith))
 
@@ -40,7 +40,7 @@ unfolding places
 second_at a b = refl
 
 module _ (r : Range) (ha : r.least < 256) (hb : r.greatest < 256) where
-  fixed_back : fixed (format_range r) ≡ some (record { first = r.least; second = r.greatest })
+  fixed_back : fixed (format_range r) ≡ Some (record { first = r.least; second = r.greatest })
   unfolding fixed format_range
   fixed_back = rw (first-at r.least r.greatest, second_at r.least r.greatest, number_of r.least (omega arith), number_of r.greatest (omega arith))
 

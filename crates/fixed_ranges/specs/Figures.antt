@@ -1,6 +1,6 @@
 -- The texts that request 10 names, and one or more for each answer.
 use Rattle.std.specs.Prelude.{◌≡◌, []}
-use Rattle.std.proofs.Math.Option.{some}
+use Rattle.std.specs.Prelude.{Some}
 use Rattle.lists.specs.Bytes.{ascii}
 use Rattle.values.specs.Range.{parse_range}
 use Rattle.fixed_ranges.specs.Fixed.{fixed, views}
@@ -9,8 +9,8 @@ use Rattle.fixed_ranges.specs.declared.Views.TheVariants.{Agree, Differ, OnlyOur
 pub record Figures : Type 0 where
   -- 68 there, 168 here
   pub differs : views (ascii "94,168") ≡ Differ
-  pub there : fixed (ascii "94,168") ≡ some (record { first = 94; second = 68 })
-  pub here : parse_range (ascii "94,168") ≡ some (record { least = 94; greatest = 168 })
+  pub there : fixed (ascii "94,168") ≡ Some (record { first = 94; second = 68 })
+  pub here : parse_range (ascii "94,168") ≡ Some (record { least = 94; greatest = 168 })
   -- four digits and more
   pub only-ours : views (ascii "0094,168") ≡ OnlyOurs
   pub neither : views (ascii "1094,168") ≡ Neither

@@ -56,18 +56,6 @@ one-residue a b p q h k e = omega arith
 pub adjust-up : (n g : ℕ) → 1 ≤ g → adjust Saturating (pos n) g ≡ min 255 (g + min 255 n)
 adjust-up n g h = omega (arith, adjust-saturating (pos n) g h)
 
--- a sum by the source's test: past 255, or not
-module _ (n g : ℕ) {u : ℕ} (e : u ≡ min n 255) where
-  pub adjust-over : 255 - g < u → 255 ≡ adjust Saturating (pos n) g
-  adjust-over h =
-      let l : 1 ≤ g = omega arith in
-      omega (arith, adjust-up n g l)
-
-  pub adjust-under : (g ≡ 0 → ⊥) → g ≤ 255 → u ≤ 255 - g → g + u ≡ adjust Saturating (pos n) g
-  adjust-under z b h =
-      let l : 1 ≤ g = omega arith in
-      omega (arith, adjust-up n g l)
-
 pub adjust-down : (n g : ℕ) → g ≤ 255 → adjust Saturating (negsuc n) g ≡ g - min 255 (suc n)
 adjust-down n zero h = omega (arith, adjust-zero (negsuc n))
 adjust-down n (suc g) h = omega (arith, adjust-saturating (negsuc n) (suc g) (omega arith))

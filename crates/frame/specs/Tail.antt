@@ -1,9 +1,7 @@
 -- The end of a file: the two marks that stand there, and where a tag starts (document 01, "Footer and tail").
-use Rattle.std.specs.Prelude.{ℕ, ◌+◌, ◌-◌, Bool, ◌&&◌, cond, List, length, drop, leb, ltb}
+use Rattle.std.specs.Prelude.{ℕ, ◌+◌, ◌-◌, Bool, ◌&&◌, cond, List, length, drop, leb, ltb, Option, None, Some, unwrap_or}
 use Rattle.lists.specs.Bytes.{ascii, starts_with}
 use Rattle.lists.specs.Le.{read_u32}
-use Rattle.frame.specs.declared.TagStart.{TagStart}
-use Rattle.frame.specs.declared.TagStart.TheVariants.{At, Nowhere}
 
 -- the eight bytes with which a header and a footer begin
 abbrev pub preamble : List ℕ
@@ -30,21 +28,16 @@ abbrev pub reach : ℕ → ℕ → ℕ
 reach size flags = size + cond (has_header flags) 32 0
 
 -- footer + 32 - size, less 32 with a header; below 0 there is no start
-unfoldable pub start_of : ℕ → ℕ → ℕ → TagStart
-start_of footer size flags = cond (ltb (footer + 32) (reach size flags)) Nowhere (At (footer + 32 - reach size flags))
+unfoldable pub start_of : ℕ → ℕ → ℕ → Option ℕ
+start_of footer size flags = cond (ltb (footer + 32) (reach size flags)) None (Some (footer + 32 - reach size flags))
 
 -- the same of the footer that stands in s, if a whole one fits there
-unfoldable pub tag_start : List ℕ → ℕ → TagStart
-tag_start s footer = cond (leb (footer + 32) (length s)) (start_of footer (read_u32 s (footer + 12)) (read_u32 s (footer + 20))) Nowhere
-
--- a start, or this place where there is none
-abbrev pub start_or : ℕ → TagStart → ℕ
-start_or end (At a) = a
-start_or end Nowhere = end
+unfoldable pub tag_start : List ℕ → ℕ → Option ℕ
+tag_start s footer = cond (leb (footer + 32) (length s)) (start_of footer (read_u32 s (footer + 12)) (read_u32 s (footer + 20))) None
 
 -- where the tag starts whose footer ends at this place of s; the place itself where no preamble stands 32 bytes before it, or no start is given
 unfoldable pub tag_before : List ℕ → ℕ → ℕ
-tag_before s end = cond (leb 32 end && starts_with preamble (drop (end - 32) s)) (start_or end (tag_start s (end - 32))) end
+tag_before s end = cond (leb 32 end && starts_with preamble (drop (end - 32) s)) (unwrap_or (tag_start s (end - 32)) end) end
 
 -- find_audio_end: an ID3v1 block is taken off first, and then the tag before it
 unfoldable pub sound_end : List ℕ → ℕ

@@ -15,13 +15,6 @@ pub const APE_PREAMBLE: [u8; 8] = *b"APETAGEX";
 // The flag of a tag that has a header.
 pub const APE_FLAG_HEADER_PRESENT: u32 = 0x8000_0000;
 
-// Where a tag starts, its header included.
-#[derive(Clone, Copy)]
-pub enum TagStart {
-    At(usize),
-    Nowhere,
-}
-
 // How a gain meets the ends of 0..255.
 #[derive(Clone, Copy)]
 pub enum GainMode {
@@ -34,21 +27,16 @@ pub enum GainMode {
 pub struct GainSteps(pub i32);
 
 impl GainMode {
-    // The mode that the flag W asks for.
+    // The mode that the flag W asks for. It has a name, and is no `From<bool>`: the published Rust calls it so, and no call needs both.
     pub fn from_wrap(wrap: bool) -> GainMode
         ensures { result ≡ mode_of wrap }
     {
         if wrap {
-            return GainMode::Wrapping;
+            GainMode::Wrapping
+        } else {
+            GainMode::Saturating
         }
-        GainMode::Saturating
     }
-}
-
-fn wide(x: u8) -> u32
-    ensures { (result ≡ x) × (result < 256) }
-{
-    x as u32
 }
 
 // The number whose four bytes stand in `file` from `at`, the least first.
@@ -56,47 +44,31 @@ pub fn read_u32_le(file: &[u8], at: usize) -> u32
     requires { at + 4 ≤ length file.now }
     ensures { result ≡ read_u32 file.now at }
 {
-    let a = wide(file[at]);
-    let b = wide(file[at + 1]);
-    let c = wide(file[at + 2]);
-    let d = wide(file[at + 3]);
-    a + b * 256 + c * 65536 + d * 16777216
+    u32::from_le_bytes([file[at], file[at + 1], file[at + 2], file[at + 3]])
 }
 
 // Whether `file` ends in a 128-byte ID3v1 block.
 pub fn ends_with_id3v1(file: &[u8]) -> bool
     ensures { result ≡ ends_with_id3v1 file.now }
 {
-    if file.len() < 128 {
-        return false;
-    }
-    lists::starts_with(file, file.len() - 128, b"TAG")
+    128 <= file.len() && lists::starts_with(file, file.len() - 128, b"TAG")
 }
 
-// Where the tag whose footer stands in `file` at `footer` starts. Nowhere where no whole footer fits there, or where it says that the
-// tag is longer than what precedes it.
-pub fn ape_tag_start(file: &[u8], footer: usize) -> TagStart
+// Where the tag whose footer stands in `file` at `footer` starts, its header included. No answer where no whole footer fits there, or where it
+// says that the tag is longer than what precedes it.
+pub fn ape_tag_start(file: &[u8], footer: usize) -> Option<usize>
     ensures { result ≡ tag_start file.now footer }
 {
-    if file.len() < 32 {
-        return TagStart::Nowhere;
-    }
-    if file.len() - 32 < footer {
-        return TagStart::Nowhere;
+    if file.len() < 32 || file.len() - 32 < footer {
+        return None;
     }
     let size = read_u32_le(file, footer + 12) as usize;
-    let end = footer + 32;
-    if end < size {
-        return TagStart::Nowhere;
-    }
-    let start = end - size;
+    let start = (footer + 32).checked_sub(size)?;
     if read_u32_le(file, footer + 20) < APE_FLAG_HEADER_PRESENT {
-        return TagStart::At(start);
+        Some(start)
+    } else {
+        start.checked_sub(32)
     }
-    if start < 32 {
-        return TagStart::Nowhere;
-    }
-    TagStart::At(start - 32)
 }
 
 // Where the tag starts whose footer ends at `end`; `end` itself where no footer stands there, or where it gives no start.
@@ -104,19 +76,10 @@ fn tag_before(file: &[u8], end: usize) -> usize
     requires { end ≤ length file.now }
     ensures { result ≡ tag_before file.now end }
 {
-    if end < 32 {
+    if end < 32 || !lists::starts_with(file, end - 32, &APE_PREAMBLE) {
         return end;
     }
-    let footer = end - 32;
-    let text = APE_PREAMBLE;
-    if !lists::starts_with(file, footer, &text) {
-        return end;
-    }
-    let s = ape_tag_start(file, footer);
-    let TagStart::At(start) = s else {
-        return end;
-    };
-    start
+    ape_tag_start(file, end - 32).unwrap_or(end)
 }
 
 // Where the sound of a file ends: before its ID3v1 block, if it has one, and before the tag that stands there.
@@ -124,19 +87,17 @@ pub fn find_audio_end(file: &[u8]) -> usize
     ensures { result ≡ sound_end file.now }
 {
     if ends_with_id3v1(file) {
-        return tag_before(file, file.len() - 128);
+        tag_before(file, file.len() - 128)
+    } else {
+        tag_before(file, file.len())
     }
-    tag_before(file, file.len())
 }
 
 // A number of steps as a byte: no gain moves further.
 pub fn within_byte(by: u32, most: u8) -> u8
     ensures { result ≡ min by most }
 {
-    if wide(most) < by {
-        return most;
-    }
-    by as u8
+    by.min(u32::from(most)) as u8
 }
 
 // A gain moved within 0..255: 0 stays, all else stops at the ends. It is reckoned in bytes, so that a list takes sixteen gains at once.
@@ -144,31 +105,20 @@ fn saturating(current: u8, steps: Apart) -> u8
     ensures { result ≡ adjust GainMode.Saturating (whole_of steps) current }
 {
     if steps.down {
-        let down = within_byte(steps.by, 254) + 1;
-        if current < down {
-            return 0;
-        }
-        return current - down;
+        current.saturating_sub(within_byte(steps.by, 254) + 1)
+    } else if current == 0 {
+        0
+    } else {
+        current.saturating_add(within_byte(steps.by, 255))
     }
-    if current == 0 {
-        return 0;
-    }
-    let up = within_byte(steps.by, 255);
-    if 255 - current < up {
-        return 255;
-    }
-    current + up
 }
 
 // A gain moved modulo 256.
 fn wrapping(current: u8, steps: Apart) -> u8
     ensures { result ≡ adjust GainMode.Wrapping (whole_of steps) current }
 {
-    let g = wide(current);
-    if steps.down {
-        return ((g + (255 - steps.by % 256)) % 256) as u8;
-    }
-    ((g + steps.by % 256) % 256) as u8
+    let by = (steps.by % 256) as u8;
+    current.wrapping_add(if steps.down { 255 - by } else { by })
 }
 
 // What a gain is after so many steps, on every gain, every number of steps and both modes.

@@ -2,7 +2,7 @@
 use Prim.Native.Nat.{ℕ}
 use mathlib.Core.Path.{◌≡◌, refl, sym}
 use mathlib.Core.Bool.{Bool, true, false, cond, true≢false}
-use mathlib.Core.Option.{Option, none, some}
+use Rattle.std.specs.Prelude.{Option, None, Some}
 use mathlib.Core.List.{List, [], ◌∷◌}
 use Rattle.lists.specs.Choice.{found, provided, is_some}
 use Rattle.utf8.specs.Utf8.{valid}
@@ -50,13 +50,13 @@ module _ (t : Item) where
 
 -- items that pass a test are there, and are the items
 pub provided-some : (p : List Item → Bool) (o : Option (List Item)) → is_some o ≡ true → is_some (provided p o) ≡ p (found o [] (λ ts. ts))
-provided-some p none e = absurd (true≢false (sym e))
-provided-some p (some ts) e = go (p ts) refl
+provided-some p None e = absurd (true≢false (sym e))
+provided-some p (Some ts) e = go (p ts) refl
   where
-    go : (b : Bool) → p ts ≡ b → is_some (cond (p ts) (some ts) none) ≡ p ts
+    go : (b : Bool) → p ts ≡ b → is_some (cond (p ts) (Some ts) None) ≡ p ts
     go true q = rw q
     go false q = rw q
 
 pub provided-none : (p : List Item → Bool) (o : Option (List Item)) → is_some o ≡ false → is_some (provided p o) ≡ false
-provided-none p none e = refl
-provided-none p (some ts) e = absurd (true≢false e)
+provided-none p None e = refl
+provided-none p (Some ts) e = absurd (true≢false e)

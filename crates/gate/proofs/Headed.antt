@@ -1,4 +1,5 @@
 -- The test of the header, by the tests of the code.
+use Rattle.std.specs.Prelude.{Some}
 use Prim.Native.Nat.{ℕ, ◌+◌, ◌/◌, ◌%◌, ◌≤◌, ◌<◌}
 use mathlib.Core.Path.{◌≡◌, sym, ◌∙◌}
 use mathlib.Core.Bool.{true, false}
@@ -9,11 +10,10 @@ use borrow.Author.Tests.{le-leb, lt-leb, eq-eqb, ne_eqb}
 use Rattle.lists.specs.Bytes.{starts_with}
 use Rattle.lists.specs.Le.{read_u32}
 use Rattle.frame.specs.Tail.{preamble, tag_start}
-use Rattle.frame.specs.declared.TagStart.TheVariants.{At as StartAt}
 use Rattle.ape.specs.Tag.{version_at, size_at, count_at}
 use Rattle.calls.specs.Gate.{header_at, is_headed}
 
-module _ (s : List ℕ) (f h : ℕ) (st : tag_start s f ≡ StartAt h) where
+module _ (s : List ℕ) (f h : ℕ) (st : tag_start s f ≡ Some h) where
   pub no-bit : read_u32 s (f + 20) < 0x80000000 → true ≡ is_headed s f
   no-bit l = rw (lt-leb _ _ l)
 

@@ -1,7 +1,7 @@
 // The editing gate: whether a file is fit for editing, and where the items of its tag stand.
 #![tactic(auto)]
 
-ghost use Rattle.std.specs.Prelude.{◌≡◌, true, ◌≤◌, ◌+◌, length};
+ghost use Rattle.std.specs.Prelude.{◌≡◌, true, ◌≤◌, ◌+◌, length, Some};
 ghost use Rattle.lists.specs.Choice.{provided, is_some};
 ghost use Rattle.frame.specs.Tail.{tag_start};
 ghost use Rattle.utf8.specs.Utf8.{Classes};
@@ -9,32 +9,25 @@ ghost use Rattle.items.specs.Items.{parse, items_in};
 ghost use Rattle.calls.specs.Gate.{is_headed, flags_fit, item_valid, all_valid};
 ghost use Rattle.gate.specs.Gate.{gate_of};
 
-use ape::Footer;
-use frame::TagStart;
 use items::Stepped;
+use replies::Refusal;
 
 // Flag bit 29: this is the header.
 const APE_FLAG_IS_HEADER: u32 = 0x2000_0000;
 
-// Where the items of a file stand that is fit for editing: an empty part where it has no tag.
+// Where the items of a file's tag stand, and how many there are.
 #[derive(Clone, Copy)]
-pub enum Editable {
-    Items {
-        start: usize,
-        end: usize,
-        count: usize,
-    },
-    Unfit,
+pub struct TagArea {
+    pub start: usize,
+    pub end: usize,
+    pub count: usize,
 }
 
 // Whether an item's flags name the type text, binary or external, with no bit beside those of the type and read-only.
 fn flags_fit(flags: u32) -> bool
     ensures { result ≡ flags_fit flags }
 {
-    if items::type_of(flags) > 2 {
-        return false;
-    }
-    flags < 8
+    items::type_of(flags) <= 2 && flags < 8
 }
 
 // Whether an item may stand in a tag that is edited: such flags, a UTF-8 key, and a UTF-8 value unless it is binary.
@@ -60,16 +53,14 @@ fn all_valid(table: &[u8; 256], area: &[u8], count: usize) -> bool
     ensures { result ≡ all_valid (items_in count area.now) }
 {
     let mut at = 0;
-    let mut left = count;
-    while 0 < left {
-        let s = items::step(area, at);
+    for _ in 0..count {
         let Stepped::Item {
             flags,
             key_start,
             key_end,
             value_start,
             value_end,
-        } = s
+        } = items::step(area, at)
         else {
             return false;
         };
@@ -82,7 +73,6 @@ fn all_valid(table: &[u8; 256], area: &[u8], count: usize) -> bool
             return false;
         }
         at = value_end;
-        left -= 1;
     }
     true
 }
@@ -100,7 +90,7 @@ fn is_clean(area: &[u8], count: usize) -> bool
 
 // Whether a tag whose footer says that it has a header begins with one: the preamble, the version of APEv2, the footer's size and count, bit 29.
 fn is_headed(file: &[u8], footer: usize, start: usize) -> bool
-    requires { (footer + 32 ≤ length file.now) × (start ≤ footer) × (tag_start file.now footer ≡ TagStart.At start) }
+    requires { (footer + 32 ≤ length file.now) × (start ≤ footer) × (tag_start file.now footer ≡ Some start) }
     ensures { result ≡ is_headed file.now footer }
 {
     if frame::read_u32_le(file, footer + 20) < frame::APE_FLAG_HEADER_PRESENT {
@@ -109,7 +99,7 @@ fn is_headed(file: &[u8], footer: usize, start: usize) -> bool
     if !lists::starts_with(file, start, &frame::APE_PREAMBLE) {
         return false;
     }
-    if frame::read_u32_le(file, start + 8) != 2000 {
+    if frame::read_u32_le(file, start + 8) != ape::APE_VERSION {
         return false;
     }
     if frame::read_u32_le(file, start + 12) != frame::read_u32_le(file, footer + 12) {
@@ -121,46 +111,44 @@ fn is_headed(file: &[u8], footer: usize, start: usize) -> bool
     frame::read_u32_le(file, start + 20) / APE_FLAG_IS_HEADER % 2 == 1
 }
 
-// Where the items of the file's tag stand, if the file is fit for editing. It takes no notice of a key that comes twice.
-pub fn gate(file: &[u8]) -> Editable
+// Where the items of the file's tag stand, if the file is fit for editing, an empty part where it has no tag: refusal 8. It takes no notice of a key that comes twice.
+pub fn gate(file: &[u8]) -> Result<TagArea, Refusal>
     ensures { result ≡ gate_of file.now }
 {
-    let found = ape::find_footer(file);
-    let Footer::At(footer) = found else {
-        return Editable::Items {
+    let Some(footer) = ape::find_footer(file) else {
+        return Ok(TagArea {
             start: 0,
             end: 0,
             count: 0,
-        };
+        });
     };
-    if frame::read_u32_le(file, footer + 8) != 2000 {
-        return Editable::Unfit;
+    if frame::read_u32_le(file, footer + 8) != ape::APE_VERSION {
+        return Err(Refusal::NotEditable);
     }
     let size = frame::read_u32_le(file, footer + 12) as usize;
     if size < 32 {
-        return Editable::Unfit;
+        return Err(Refusal::NotEditable);
     }
-    let s = frame::ape_tag_start(file, footer);
-    let TagStart::At(tag) = s else {
-        return Editable::Unfit;
+    let Some(tag) = frame::ape_tag_start(file, footer) else {
+        return Err(Refusal::NotEditable);
     };
     let count = frame::read_u32_le(file, footer + 16) as usize;
     if replies::COUNT_LIMIT < count {
-        return Editable::Unfit;
+        return Err(Refusal::NotEditable);
     }
     if 32 + replies::AREA_LIMIT < size {
-        return Editable::Unfit;
+        return Err(Refusal::NotEditable);
     }
     if !is_headed(file, footer, tag) {
-        return Editable::Unfit;
+        return Err(Refusal::NotEditable);
     }
     let start = footer + 32 - size;
     if !is_clean(&file[start..footer], count) {
-        return Editable::Unfit;
+        return Err(Refusal::NotEditable);
     }
-    Editable::Items {
+    Ok(TagArea {
         start,
         end: footer,
         count,
-    }
+    })
 }

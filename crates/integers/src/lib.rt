@@ -1,4 +1,4 @@
-// A signed number taken apart into its sign and its size, and put together again: the one place where code looks at a sign.
+// A signed number taken apart into its sign and its size, and put together again.
 #![tactic(auto)]
 
 ghost use Rattle.std.specs.Prelude.{◌≡◌, ◌<◌};
@@ -16,15 +16,15 @@ pub fn take_apart(n: i32) -> Apart
     ensures { result ≡ apart_of n }
 {
     if n < 0 {
-        let m = !n;
-        return Apart {
+        Apart {
             down: true,
-            by: m as u32,
-        };
-    }
-    Apart {
-        down: false,
-        by: n as u32,
+            by: !n as u32,
+        }
+    } else {
+        Apart {
+            down: false,
+            by: n as u32,
+        }
     }
 }
 
@@ -34,8 +34,5 @@ pub fn together(a: Apart) -> i32
     ensures { result ≡ whole_of a }
 {
     let n = a.by as i32;
-    if a.down {
-        return !n;
-    }
-    n
+    if a.down { !n } else { n }
 }

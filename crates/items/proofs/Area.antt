@@ -4,12 +4,12 @@ use native.Mathlib.Omega.{arith}
 use native.Mathlib.Numerals.{add-one}
 use mathlib.Core.Path.{◌≡◌, refl, sym, ap, ◌∙◌}
 use mathlib.Core.Bool.{Bool, true, false, cond, true≢false}
-use mathlib.Core.Option.{Option, none, some, map}
+use Rattle.std.specs.Prelude.{Option, None, Some, option_map}
 use mathlib.Core.List.{List, [], ◌∷◌, ◌++◌, append_assoc}
 use lib.ListN.{length, take, drop, length-append, length-drop, take-append-drop}
 use lib.Seq.{drop-append-add, take-append_seam, drop-append_seam, drop-drop, length-take-le, take_at}
 use lib.Dec.{eqb, leb}
-use borrow.Author.Tests.{le-leb, leb-true, leb-false, eqb-false, eqb-true, eq-eqb, ne_eqb}
+use borrow.Author.Tests.{le-leb, leb-true, leb-false, eqb-true, eq-eqb, ne_eqb}
 use Rattle.lists.specs.Bytes.{Small, place_of}
 use Rattle.lists.specs.Choice.{found, is_some}
 use Rattle.lists.specs.Le.{u32le, read_u32}
@@ -30,7 +30,7 @@ AllSane [] = Unit {0}
 AllSane (t ∷ ts) = Sane t × AllSane ts
 
 head-at : (k v s : List ℕ) (f : ℕ) → place_of 0 k ≡ length k
-    → head_at (length v) f (k ++ (0 ∷ (v ++ s))) ≡ some (record { item = record { key = k; value = v; flags = f }; rest = s })
+    → head_at (length v) f (k ++ (0 ∷ (v ++ s))) ≡ Some (record { item = record { key = k; value = v; flags = f }; rest = s })
 unfolding head_at
 head-at k v s f z =
     rw (
@@ -55,7 +55,7 @@ head-flat : (n g : ℕ) (b : List ℕ) → n < 4294967296 → g < 4294967296 →
 unfolding head
 head-flat n g b h f = ap (λ (m : ℕ). head_at m (read_u32 (u32le n ++ (u32le g ++ b)) 4) b) (read_here n (u32le g ++ b) h) ∙ ap (λ (m : ℕ). head_at n m b) (read-second n g b f)
 
-pub head-item : (t : Item) (s : List ℕ) → Sane t → length t.value < 4294967296 → head (item_bytes t ++ s) ≡ some (record { item = t; rest = s })
+pub head-item : (t : Item) (s : List ℕ) → Sane t → length t.value < 4294967296 → head (item_bytes t ++ s) ≡ Some (record { item = t; rest = s })
 head-item t s (z, f) h = rw (flat t s, head-flat (length t.value) t.flags _ h f, head-at t.key t.value s t.flags z)
 
 pub length-item : (t : Item) → length (item_bytes t) ≡ size_of t
@@ -67,7 +67,7 @@ unfolding area_bytes
 length-area t ts = rw (length-append, length-item)
 
 -- the items of an area are read back
-pub parse-area : (ts : List Item) → AllSane ts → length (area_bytes ts) < 4294967296 → parse (length ts) (area_bytes ts) ≡ some ts
+pub parse-area : (ts : List Item) → AllSane ts → length (area_bytes ts) < 4294967296 → parse (length ts) (area_bytes ts) ≡ Some ts
 unfolding parse area_bytes
 parse-area [] ok h = refl
 parse-area (t ∷ ts) ok h =
@@ -116,15 +116,15 @@ front s =
     let v = drop (place_of 0 b + 1) b in
     record { item = record { key = take (place_of 0 b) b; value = take (read_u32 s 0) v; flags = read_u32 s 4 }; rest = drop (read_u32 s 0) v }
 
-pub head-front : (s : List ℕ) → Front s → head s ≡ some (front s)
+pub head-front : (s : List ℕ) → Front s → head s ≡ Some (front s)
 unfolding head head_at
 head-front s f = rw (le-leb _ _ (fronted s f))
 
-pub head-unfit : (s : List ℕ) → (Front s → ⊥) → head s ≡ none
+pub head-unfit : (s : List ℕ) → (Front s → ⊥) → head s ≡ None
 unfolding head head_at
 head-unfit s f = go (leb (place_of 0 (drop 8 s) + 1 + read_u32 s 0) (length (drop 8 s))) refl
   where
-    go : (t : Bool) → leb (place_of 0 (drop 8 s) + 1 + read_u32 s 0) (length (drop 8 s)) ≡ t → head s ≡ none
+    go : (t : Bool) → leb (place_of 0 (drop 8 s) + 1 + read_u32 s 0) (length (drop 8 s)) ≡ t → head s ≡ None
     go true e = absurd (f (unfronted s (leb-true _ _ e)))
     go false e = rw e
 
@@ -149,23 +149,23 @@ whole-front s f =
     }
 
 -- an item was found where there is one
-seen : (s : List ℕ) (h : Head) → head s ≡ some h → Front s × (front s ≡ h)
+seen : (s : List ℕ) (h : Head) → head s ≡ Some h → Front s × (front s ≡ h)
 seen s h e = go (leb (9 + place_of 0 (drop 8 s) + read_u32 s 0) (length s)) refl
   where
     go : (t : Bool) → leb (9 + place_of 0 (drop 8 s) + read_u32 s 0) (length s) ≡ t → Front s × (front s ≡ h)
     go true p =
-        let f : head s ≡ some (front s) = head-front s (leb-true _ _ p) in
+        let f : head s ≡ Some (front s) = head-front s (leb-true _ _ p) in
         (leb-true _ _ p, cc)
     go false p =
         let less : length s < 9 + place_of 0 (drop 8 s) + read_u32 s 0 = leb-false _ _ p in
-        let f : head s ≡ none = head-unfit s (λ w. absurd (omega arith)) in
+        let f : head s ≡ None = head-unfit s (λ w. absurd (omega arith)) in
         absurd (let z : ◌≡◌ {A = ℕ} 0 1 = cc in omega arith)
 
-pub whole : (s : List ℕ) (h : Head) → head s ≡ some h → Whole s h
+pub whole : (s : List ℕ) (h : Head) → head s ≡ Some h → Whole s h
 whole s h e = let (f, q) = seen s h e in rw (← q) (whole-front s f)
 
 -- the item's bytes, and what follows it
-pub head_bytes : (s : List ℕ) (h : Head) → Small s → head s ≡ some h → s ≡ item_bytes h.item ++ h.rest
+pub head_bytes : (s : List ℕ) (h : Head) → Small s → head s ≡ Some h → s ≡ item_bytes h.item ++ h.rest
 head_bytes s h b e =
     let (f, q) = seen s h e in
     let w = whole-front s f in
@@ -184,25 +184,24 @@ head_bytes s h b e =
 
 -- ---- a list of items that was read
 
-pub parse-stop : (n : ℕ) (s : List ℕ) → 0 < n → head s ≡ none → parse n s ≡ none
+pub parse-stop : (n : ℕ) (s : List ℕ) → 0 < n → head s ≡ None → parse n s ≡ None
 unfolding parse
 parse-stop zero s h e = absurd (omega arith)
 parse-stop (suc n) s h e = rw e
 
-pub parse-go : (n : ℕ) (s : List ℕ) (h : Head) → 0 < n → head s ≡ some h → parse n s ≡ map (λ ts. h.item ∷ ts) (parse (n - 1) h.rest)
+pub parse-go : (n m : ℕ) (s : List ℕ) (h : Head) → n ≡ m + 1 → head s ≡ Some h → parse n s ≡ option_map (λ ts. h.item ∷ ts) (parse m h.rest)
 unfolding parse
-parse-go zero s h l e = absurd (omega arith)
-parse-go (suc n) s h l e = let q : suc n - 1 ≡ n = omega arith in rw (e, q)
+parse-go n m s h l e = rw (l, add-one, e)
 
 -- an area holds at most a ninth of its bytes in items
-pub parse-long : (n : ℕ) (s : List ℕ) → length s < 9 * n → parse n s ≡ none
+pub parse-long : (n : ℕ) (s : List ℕ) → length s < 9 * n → parse n s ≡ None
 unfolding parse
 parse-long zero s l = absurd (omega arith)
 parse-long (suc n) s l = go (head s) refl (λ h. parse-long n h.rest)
   where
-    go : (o : Option Head) → head s ≡ o → ((h : Head) → length h.rest < 9 * n → parse n h.rest ≡ none) → parse (suc n) s ≡ none
-    go none e ih = rw e
-    go (some h) e ih =
+    go : (o : Option Head) → head s ≡ o → ((h : Head) → length h.rest < 9 * n → parse n h.rest ≡ None) → parse (suc n) s ≡ None
+    go None e ih = rw e
+    go (Some h) e ih =
         let w = whole s h e in
         let r : length h.rest ≡ length s - size_of h.item = ap length w.after ∙ length-drop (size_of h.item) s in
         rw (e, ih h (omega arith))
@@ -215,9 +214,9 @@ parse-end s at h = go (drop at s) refl
     go [] e = let l : length s - at ≡ 0 = sym (length-drop at s) ∙ ap length e in rw e (sym (eq-eqb at (length s) (omega arith)))
     go (x ∷ r) e = let l : length s - at ≡ suc (length r) = sym (length-drop at s) ∙ ap length e in rw e (sym (ne_eqb at (length s) (λ q. absurd (omega arith))))
 
-pub map-some : {A B : Type 0} (f : A → B) (o : Option A) → is_some (map f o) ≡ is_some o
-map-some f none = refl
-map-some f (some a) = refl
+pub map-some : {A B : Type 0} (f : A → B) (o : Option A) → is_some (option_map f o) ≡ is_some o
+map-some f None = refl
+map-some f (Some a) = refl
 
 -- ---- a well-formed area as a whole
 
@@ -227,14 +226,14 @@ count-items zero [] e = refl
 count-items zero (x ∷ s) e = absurd (true≢false (sym e))
 count-items (suc n) s e = go (head s) refl (λ r. count-items n r)
   where
-    inner : (h : Head) (o : Option (List Item)) → is_some (map (λ ts. h.item ∷ ts) o) ≡ true → (is_some o ≡ true → length (found o [] (λ ts. ts)) ≡ n)
-        → length (found (map (λ ts. h.item ∷ ts) o) [] (λ ts. ts)) ≡ suc n
-    inner h none e ih = absurd (true≢false (sym e))
-    inner h (some ts) e ih = ap suc (ih refl)
+    inner : (h : Head) (o : Option (List Item)) → is_some (option_map (λ ts. h.item ∷ ts) o) ≡ true → (is_some o ≡ true → length (found o [] (λ ts. ts)) ≡ n)
+        → length (found (option_map (λ ts. h.item ∷ ts) o) [] (λ ts. ts)) ≡ suc n
+    inner h None e ih = absurd (true≢false (sym e))
+    inner h (Some ts) e ih = ap suc (ih refl)
 
     go : (o : Option Head) → head s ≡ o → ((r : List ℕ) → is_some (parse n r) ≡ true → length (items_in n r) ≡ n) → length (items_in (suc n) s) ≡ suc n
-    go none q ih = absurd (true≢false (sym e ∙ rw q))
-    go (some h) q ih = rw q (inner h (parse n h.rest) (rw q at e) (ih h.rest))
+    go None q ih = absurd (true≢false (sym e ∙ rw q))
+    go (Some h) q ih = rw q (inner h (parse n h.rest) (rw q at e) (ih h.rest))
 
 -- it is as long as its items
 pub area-length : (n : ℕ) (s : List ℕ) → is_some (parse n s) ≡ true → length (area_bytes (items_in n s)) ≡ length s
@@ -243,14 +242,14 @@ area-length zero [] e = refl
 area-length zero (x ∷ s) e = absurd (true≢false (sym e))
 area-length (suc n) s e = go (head s) refl (λ r. area-length n r)
   where
-    inner : (h : Head) (o : Option (List Item)) → is_some (map (λ ts. h.item ∷ ts) o) ≡ true → (is_some o ≡ true → length (area_bytes (found o [] (λ ts. ts))) ≡ length h.rest)
-        → length (area_bytes (found (map (λ ts. h.item ∷ ts) o) [] (λ ts. ts))) ≡ size_of h.item + length h.rest
-    inner h none e ih = absurd (true≢false (sym e))
-    inner h (some ts) e ih = length-area h.item ts ∙ ap (λ (i : ℕ). size_of h.item + i) (ih refl)
+    inner : (h : Head) (o : Option (List Item)) → is_some (option_map (λ ts. h.item ∷ ts) o) ≡ true → (is_some o ≡ true → length (area_bytes (found o [] (λ ts. ts))) ≡ length h.rest)
+        → length (area_bytes (found (option_map (λ ts. h.item ∷ ts) o) [] (λ ts. ts))) ≡ size_of h.item + length h.rest
+    inner h None e ih = absurd (true≢false (sym e))
+    inner h (Some ts) e ih = length-area h.item ts ∙ ap (λ (i : ℕ). size_of h.item + i) (ih refl)
 
     go : (o : Option Head) → head s ≡ o → ((r : List ℕ) → is_some (parse n r) ≡ true → length (area_bytes (items_in n r)) ≡ length r) → length (area_bytes (items_in (suc n) s)) ≡ length s
-    go none q ih = absurd (true≢false (sym e ∙ rw q))
-    go (some h) q ih =
+    go None q ih = absurd (true≢false (sym e ∙ rw q))
+    go (Some h) q ih =
         let w = whole s h q in
         let r : length h.rest ≡ length s - size_of h.item = ap length w.after ∙ length-drop (size_of h.item) s in
         rw q (inner h (parse n h.rest) (rw q at e) (ih h.rest) ∙ omega (arith, w.long))
@@ -262,18 +261,18 @@ area-items zero [] b e = refl
 area-items zero (x ∷ s) b e = absurd (true≢false (sym e))
 area-items (suc n) s b e = go (head s) refl (λ r. area-items n r)
   where
-    inner : (h : Head) (o : Option (List Item)) → is_some (map (λ ts. h.item ∷ ts) o) ≡ true → (is_some o ≡ true → area_bytes (found o [] (λ ts. ts)) ≡ h.rest)
-        → area_bytes (found (map (λ ts. h.item ∷ ts) o) [] (λ ts. ts)) ≡ item_bytes h.item ++ h.rest
-    inner h none e ih = absurd (true≢false (sym e))
-    inner h (some ts) e ih = ap (λ (l : List ℕ). item_bytes h.item ++ l) (ih refl)
+    inner : (h : Head) (o : Option (List Item)) → is_some (option_map (λ ts. h.item ∷ ts) o) ≡ true → (is_some o ≡ true → area_bytes (found o [] (λ ts. ts)) ≡ h.rest)
+        → area_bytes (found (option_map (λ ts. h.item ∷ ts) o) [] (λ ts. ts)) ≡ item_bytes h.item ++ h.rest
+    inner h None e ih = absurd (true≢false (sym e))
+    inner h (Some ts) e ih = ap (λ (l : List ℕ). item_bytes h.item ++ l) (ih refl)
 
     go : (o : Option Head) → head s ≡ o → ((r : List ℕ) → Small r → is_some (parse n r) ≡ true → area_bytes (items_in n r) ≡ r) → area_bytes (items_in (suc n) s) ≡ s
-    go none q ih = absurd (true≢false (sym e ∙ rw q))
-    go (some h) q ih =
+    go None q ih = absurd (true≢false (sym e ∙ rw q))
+    go (Some h) q ih =
         let w = whole s h q in
         let r : Small h.rest = rw w.after (small-drop s (size_of h.item) b) in
-        let f : is_some (map (λ ts. h.item ∷ ts) (parse n h.rest)) ≡ true = rw q at e in
-        let g : area_bytes (found (map (λ ts. h.item ∷ ts) (parse n h.rest)) [] (λ ts. ts)) ≡ item_bytes h.item ++ h.rest = inner h (parse n h.rest) f (ih h.rest r) in
+        let f : is_some (option_map (λ ts. h.item ∷ ts) (parse n h.rest)) ≡ true = rw q at e in
+        let g : area_bytes (found (option_map (λ ts. h.item ∷ ts) (parse n h.rest)) [] (λ ts. ts)) ≡ item_bytes h.item ++ h.rest = inner h (parse n h.rest) f (ih h.rest r) in
         rw q g ∙ sym (head_bytes s h b q)
 
 pub area-append : (xs ys : List Item) → area_bytes (xs ++ ys) ≡ area_bytes xs ++ area_bytes ys
@@ -288,7 +287,7 @@ parse-fits n s e = go (leb (9 * n) (length s)) refl
     go true q = leb-true _ _ q
     go false q = absurd (true≢false (sym e ∙ ap is_some (parse-long n s (leb-false _ _ q))))
 
-pub parse-none : (s : List ℕ) (ts : List Item) → parse 0 s ≡ some ts → ts ≡ []
+pub parse-none : (s : List ℕ) (ts : List Item) → parse 0 s ≡ Some ts → ts ≡ []
 unfolding parse
 parse-none [] ts e = cc
 parse-none (x ∷ s) ts e = absurd (let z : ◌≡◌ {A = ℕ} 0 1 = cc in omega arith)
@@ -297,12 +296,12 @@ parse-none (x ∷ s) ts e = absurd (let z : ◌≡◌ {A = ℕ} 0 1 = cc in omeg
 
 -- items that were written there are read back
 pub read_back : (ts : List Item) (new old : List ℕ) (n c : ℕ) → new ≡ over (area_bytes ts) old → n ≡ length (area_bytes ts) → c ≡ length ts → AllSane ts
-    → length (area_bytes ts) < 4294967296 → parse c (take (n - 0) new) ≡ some ts
+    → length (area_bytes ts) < 4294967296 → parse c (take n new) ≡ Some ts
 read_back ts new old n c e f g s h =
-    ap (λ (l : List ℕ). parse c (take (n - 0) l)) e
-    ∙ ap (parse c) (take_at (area_bytes ts) _ (n - 0) (omega arith))
+    ap (λ (l : List ℕ). parse c (take n l)) e
+    ∙ ap (parse c) (take_at (area_bytes ts) _ n (omega arith))
     ∙ ap (λ (i : ℕ). parse i (area_bytes ts)) g
     ∙ parse-area ts s h
 
-pub back-good : (c : ℕ) (s : List ℕ) {ts : List Item} → parse c s ≡ some ts → (is_some (parse c s) ≡ true) × (items_in c s ≡ ts)
+pub back-good : (c : ℕ) (s : List ℕ) {ts : List Item} → parse c s ≡ Some ts → (is_some (parse c s) ≡ true) × (items_in c s ≡ ts)
 back-good c s e = rw e (refl, refl)

@@ -3,7 +3,7 @@ use Prim.Native.Nat.{ℕ, zero, suc, ◌+◌, ◌≤◌, ◌<◌}
 use native.Mathlib.Omega.{arith}
 use mathlib.Core.Path.{◌≡◌, refl, sym, ap, ◌∙◌}
 use mathlib.Core.Bool.{Bool, true, false, ◌||◌, cond, true≢false}
-use mathlib.Core.Option.{Option, none, some, map}
+use Rattle.std.specs.Prelude.{Option, None, Some, option_map}
 use mathlib.Core.List.{List, [], ◌∷◌}
 use lib.ListN.{length, take, drop, length-append}
 use lib.Dec.{eqb}
@@ -13,16 +13,16 @@ use Rattle.lists.proofs.Places.{small-drop}
 use Rattle.keys.specs.Keys.{upper_all, same_key, is_mp3gain_key, is_undone, undo_key, minmax_key, is_key}
 use Rattle.keys.proofs.Keys.{key-sym, key-upper, length-upper, Caseless, same-caseless, from-caseless, eight_are, printable-whole, printable-upper, key-printable}
 use Rattle.items.specs.Items.{Item, area_bytes, size_of, Head, head, parse, items_in, get_item, set_item, with_value, new_item, without, remove_item, count_of}
-use Rattle.items.proofs.Area.{Sane, AllSane, whole, length-area}
+use Rattle.items.proofs.Area.{AllSane, whole, length-area}
 
 -- ---- get, set, without
 
-pub get_set_same : (key value : List ℕ) (ts : List Item) → get_item key (set_item key value ts) ≡ some value
+pub get_set_same : (key value : List ℕ) (ts : List Item) → get_item key (set_item key value ts) ≡ Some value
 unfolding get_item set_item
 get_set_same key value [] = rw (key-sym (upper_all key) key (key-upper key))
 get_set_same key value (t ∷ ts) = go (same_key key t.key) refl (get_set_same key value ts)
   where
-    go : (a : Bool) → same_key key t.key ≡ a → get_item key (set_item key value ts) ≡ some value → get_item key (set_item key value (t ∷ ts)) ≡ some value
+    go : (a : Bool) → same_key key t.key ≡ a → get_item key (set_item key value ts) ≡ Some value → get_item key (set_item key value (t ∷ ts)) ≡ Some value
     go true e ih = rw (e, e)
     go false e ih = rw (e, e) ih
 
@@ -147,12 +147,12 @@ undo-drops ts =
     turned false false false = refl
 
 -- a key removed is not got
-pub get-removed : (key : List ℕ) (ts : List Item) → get_item key (remove_item key ts) ≡ none
+pub get-removed : (key : List ℕ) (ts : List Item) → get_item key (remove_item key ts) ≡ None
 unfolding get_item without
 get-removed key [] = refl
 get-removed key (t ∷ ts) = go (same_key key t.key) refl (get-removed key ts)
   where
-    go : (a : Bool) → same_key key t.key ≡ a → get_item key (remove_item key ts) ≡ none → get_item key (remove_item key (t ∷ ts)) ≡ none
+    go : (a : Bool) → same_key key t.key ≡ a → get_item key (remove_item key ts) ≡ None → get_item key (remove_item key (t ∷ ts)) ≡ None
     go true e ih = rw e ih
     go false e ih = rw (e, e) ih
 
@@ -298,7 +298,7 @@ sane-both [] k f = tt
 sane-both (t ∷ ts) (k, l) (f, g) = ((k, f), sane-both ts l g)
 
 -- an item that was read has no zero byte in its key
-head-key : (s : List ℕ) (h : Head) → head s ≡ some h → place_of 0 h.item.key ≡ length h.item.key
+head-key : (s : List ℕ) (h : Head) → head s ≡ Some h → place_of 0 h.item.key ≡ length h.item.key
 head-key s h q =
     let w = whole s h q in
     let k : h.item.key ≡ take (place_of 0 (drop 8 s)) (drop 8 s) = w.key-is ∙ ap (λ (i : ℕ). take i (drop 8 s)) w.key-long in
@@ -311,13 +311,13 @@ parse-keys zero (x ∷ s) = tt
 parse-keys (suc n) s = go (head s) refl (λ r. parse-keys n r)
   where
     inner : (h : Head) (o : Option (List Item)) → place_of 0 h.item.key ≡ length h.item.key → KeysSane (found o [] (λ ts. ts))
-        → KeysSane (found (map (λ ts. h.item ∷ ts) o) [] (λ ts. ts))
-    inner h none k ih = tt
-    inner h (some ts) k ih = (k, ih)
+        → KeysSane (found (option_map (λ ts. h.item ∷ ts) o) [] (λ ts. ts))
+    inner h None k ih = tt
+    inner h (Some ts) k ih = (k, ih)
 
     go : (o : Option Head) → head s ≡ o → ((r : List ℕ) → KeysSane (items_in n r)) → KeysSane (items_in (suc n) s)
-    go none q ih = rw q tt
-    go (some h) q ih = rw q (inner h (parse n h.rest) (head-key s h q) (ih h.rest))
+    go None q ih = rw q tt
+    go (Some h) q ih = rw q (inner h (parse n h.rest) (head-key s h q) (ih h.rest))
 
 -- the flags of items that were read from bytes
 pub parse-flags : (n : ℕ) (s : List ℕ) → Small s → FlagsSane (items_in n s)
@@ -327,13 +327,13 @@ parse-flags zero (x ∷ s) b = tt
 parse-flags (suc n) s b = go (head s) refl (λ r. parse-flags n r)
   where
     inner : (h : Head) (o : Option (List Item)) → h.item.flags < 4294967296 → FlagsSane (found o [] (λ ts. ts))
-        → FlagsSane (found (map (λ ts. h.item ∷ ts) o) [] (λ ts. ts))
-    inner h none k ih = tt
-    inner h (some ts) k ih = (k, ih)
+        → FlagsSane (found (option_map (λ ts. h.item ∷ ts) o) [] (λ ts. ts))
+    inner h None k ih = tt
+    inner h (Some ts) k ih = (k, ih)
 
     go : (o : Option Head) → head s ≡ o → ((r : List ℕ) → Small r → FlagsSane (items_in n r)) → FlagsSane (items_in (suc n) s)
-    go none q ih = rw q tt
-    go (some h) q ih =
+    go None q ih = rw q tt
+    go (Some h) q ih =
         let w = whole s h q in
         let r : Small h.rest = rw w.after (small-drop s (size_of h.item) b) in
         rw q (inner h (parse n h.rest) (omega (arith, w.flags-are, b 4, b 5, b 6, b 7)) (ih h.rest r))

@@ -3,8 +3,7 @@ use Prim.Native.Nat.{ℕ, ◌+◌, ◌-◌, ◌≤◌, ◌<◌}
 use native.Mathlib.Omega.{arith}
 use mathlib.Core.Path.{◌≡◌, refl, sym, ap, ◌∙◌}
 use mathlib.Core.Bool.{true, true≢false}
-use mathlib.Core.Logic.{◌⊎◌}
-use mathlib.Core.Option.{Option, none, some, map}
+use Rattle.std.specs.Prelude.{Option, None, Some, option_map}
 use mathlib.Core.List.{List, [], ◌∷◌}
 use lib.ListN.{length, take, drop}
 use lib.Seq.{drop-drop, take_at}
@@ -17,7 +16,7 @@ use Rattle.items.specs.Answers.{step_of}
 use Rattle.items.specs.declared.Stepped.{Stepped}
 use Rattle.items.specs.declared.Stepped.TheVariants.{Item as ItemAt}
 use Rattle.items.proofs.Area.{head_bytes, length-item, parse-stop}
-use Rattle.items.proofs.Walk.{Taken, taken, tag, stopped, fewer, fewer-some, key-part}
+use Rattle.items.proofs.Walk.{Taken, taken, stopped, fewer, fewer-some, key-part}
 
 -- `left` items stand from `at` to the end
 pub record Left (s : List ℕ) (at left : ℕ) : Type 0 where
@@ -28,10 +27,10 @@ pub begin : (s : List ℕ) (count : ℕ) → is_some (parse count s) ≡ true �
 begin s count e = record { within = omega arith; some = e }
 
 -- the first of them, and the places that the step answered
-pub record Turn (s : List ℕ) (at left a b c d : ℕ) : Type 0 where
+pub record Turn (s : List ℕ) (at left m a b c d : ℕ) : Type 0 where
   pub item : Item
-  pub list : items_in left (drop at s) ≡ item ∷ items_in (left - 1) (drop d s)
-  pub rest : Left s d (left - 1)
+  pub list : items_in left (drop at s) ≡ item ∷ items_in m (drop d s)
+  pub rest : Left s d m
   pub key-start : a ≡ at + 8
   pub key-end : b ≡ at + 8 + length item.key
   pub value-start : c ≡ b + 1
@@ -40,10 +39,10 @@ pub record Turn (s : List ℕ) (at left a b c d : ℕ) : Type 0 where
   pub value : part c d s ≡ item.value
   pub bytes : Small s → part at d s ≡ item_bytes item
 
-opened : (x : Item) (o : Option (List Item)) → is_some (map (λ ts. x ∷ ts) o) ≡ true
-    → found (map (λ ts. x ∷ ts) o) [] (λ ts. ts) ≡ x ∷ found o [] (λ ts. ts)
-opened x none e = absurd (true≢false (sym e))
-opened x (some ts) e = refl
+opened : (x : Item) (o : Option (List Item)) → is_some (option_map (λ ts. x ∷ ts) o) ≡ true
+    → found (option_map (λ ts. x ∷ ts) o) [] (λ ts. ts) ≡ x ∷ found o [] (λ ts. ts)
+opened x None e = absurd (true≢false (sym e))
+opened x (Some ts) e = refl
 
 -- the value, as the code takes it
 pub value-part : {s : List ℕ} {at g a b c d : ℕ} (t : Taken s at g a b c d) → part c d s ≡ t.head.item.value
@@ -65,17 +64,17 @@ item-part {s} {at} {g} {a} {b} {c} {d} t sm =
     ∙ ap (λ (l : List ℕ). take (size_of h.item) l) (head_bytes (drop at s) h (small-drop s at sm) t.is)
     ∙ take_at (item_bytes h.item) h.rest (size_of h.item) (length-item h.item)
 
-module _ {s : List ℕ} {at left : ℕ} (l : Left s at left) (more : 0 < left) where
+module _ {s : List ℕ} {at left : ℕ} (l : Left s at left) (m : ℕ) (more : left ≡ m + 1) where
   -- an item was found
-  pub turn : {g a b c d : ℕ} → ItemAt g a b c d ≡ step_of s at → Turn s at left a b c d
+  pub turn : {g a b c d : ℕ} → ItemAt g a b c d ≡ step_of s at → Turn s at left m a b c d
   turn {g} {a} {b} {c} {d} e =
       let t = taken s at g a b c d e in
       let h = t.head in
-      let f = fewer left t more in
+      let f = fewer left m t more in
       record {
         item = h.item;
-        list = ap (λ o. found o [] (λ ts. ts)) f ∙ opened h.item (parse (left - 1) (drop d s)) (sym (ap is_some f) ∙ l.some);
-        rest = record { within = t.within; some = sym (fewer-some left t more) ∙ l.some };
+        list = ap (λ o. found o [] (λ ts. ts)) f ∙ opened h.item (parse m (drop d s)) (sym (ap is_some f) ∙ l.some);
+        rest = record { within = t.within; some = sym (fewer-some left m t more) ∙ l.some };
         key-start = t.key-start;
         key-end = t.key-end;
         value-start = omega (arith, t.key-end, t.value-start);
@@ -90,9 +89,9 @@ module _ {s : List ℕ} {at left : ℕ} (l : Left s at left) (more : 0 < left) w
   unfolding turn
   turn-flags {g} {a} {b} {c} {d} e = (taken s at g a b c d e).flags
 
-  -- the step finds one
-  pub never : (r : Stepped) → r ≡ step_of s at → (tag r ≡ 1) ⊎ (tag r ≡ 2) → ⊥
-  never r e k = true≢false (sym l.some ∙ ap is_some (parse-stop left (drop at s) more (stopped s at r e k)))
+-- the step finds one
+pub never : {s : List ℕ} {at left : ℕ} → Left s at left → 0 < left → (r : Stepped) → r ≡ step_of s at → ((g a b c d : ℕ) → r ≡ ItemAt g a b c d → ⊥) → ⊥
+never {s} {at} {left} l more r e k = true≢false (sym l.some ∙ ap is_some (parse-stop left (drop at s) more (stopped s at r e k)))
 
 pub items-none : (s : List ℕ) → items_in 0 s ≡ []
 unfolding parse

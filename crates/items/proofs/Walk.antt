@@ -4,14 +4,12 @@ use native.Mathlib.Omega.{arith}
 use native.Mathlib.Nat.{add-zero}
 use mathlib.Core.Path.{◌≡◌, refl, sym, ap, ◌∙◌}
 use mathlib.Core.Bool.{Bool, true, false}
-use mathlib.Core.Logic.{◌⊎◌, ⊎_elim}
-use mathlib.Core.Option.{Option, none, some, map}
+use Rattle.std.specs.Prelude.{Option, None, Some, option_map}
 use mathlib.Core.List.{List, ◌∷◌}
 use lib.ListN.{length, take, drop, length-drop}
 use lib.Seq.{drop-drop, get_or-drop}
 use lib.Dec.{leb}
 use borrow.Author.Tests.{le-leb, lt-leb, leb-true, leb-false}
-use denote.Enum.Declared.{tag_of, declared}
 use Rattle.lists.specs.Bytes.{place_of}
 use Rattle.lists.specs.Choice.{is_some}
 use Rattle.lists.specs.Le.{read_u32}
@@ -20,7 +18,6 @@ use Rattle.items.specs.Items.{size_of, Head, head as head_of, parse}
 use Rattle.items.specs.Answers.{places_of, step_of}
 use Rattle.items.specs.declared.Stepped.{Stepped}
 use Rattle.items.specs.declared.Stepped.TheVariants.{Item as ItemAt, Malformed, End}
-use Rattle.items.specs.contracts.Stepped.{enum}
 use Rattle.items.proofs.Area.{Whole, Front, front, head-front, head-unfit, whole, parse-go, map-some}
 
 -- ---- by the code's numbers
@@ -54,7 +51,7 @@ module _ (s : List ℕ) (at : ℕ) where
       → step_of s at ≡ ItemAt (read_u32 s (at + 4)) (at + 8) key_end (key_end + 1) (key_end + 1 + read_u32 s at)
   step-item h f =
       let fit : Front (drop at s) = omega (arith, key-at, size-at, length-drop at s) in
-      let e : head_of (drop at s) ≡ some (front (drop at s)) = head-front (drop at s) fit in
+      let e : head_of (drop at s) ≡ Some (front (drop at s)) = head-front (drop at s) fit in
       let w = whole (drop at s) (front (drop at s)) e in
       let kl : length (front (drop at s)).item.key ≡ place_of 0 (drop (at + 8) s) = w.key-long ∙ rw drop-drop in
       let vl : length (front (drop at s)).item.value ≡ read_u32 s at = w.value-long ∙ size-at in
@@ -62,13 +59,10 @@ module _ (s : List ℕ) (at : ℕ) where
 
 -- ---- by what a step found
 
-abbrev pub tag : Stepped → ℕ
-tag r = tag_of (declared enum) r
-
 -- a step that found an item
 pub record Taken (s : List ℕ) (at g a b c d : ℕ) : Type 0 where
   pub head : Head
-  pub is : head_of (drop at s) ≡ some head
+  pub is : head_of (drop at s) ≡ Some head
   pub whole : Whole (drop at s) head
   pub flags : g ≡ head.item.flags
   pub key-start : a ≡ at + 8
@@ -79,18 +73,18 @@ pub record Taken (s : List ℕ) (at g a b c d : ℕ) : Type 0 where
   pub after : head.rest ≡ drop d s
 
 module _ (s : List ℕ) (at : ℕ) where
-  found_at : (h : Head) → at < length s → head_of (drop at s) ≡ some h → step_of s at ≡ places_of at h
+  found_at : (h : Head) → at < length s → head_of (drop at s) ≡ Some h → step_of s at ≡ places_of at h
   found_at h l e = rw (lt-leb _ _ l, e)
 
-  nothing-at : at < length s → head_of (drop at s) ≡ none → step_of s at ≡ Malformed
+  nothing-at : at < length s → head_of (drop at s) ≡ None → step_of s at ≡ Malformed
   nothing-at l e = rw (lt-leb _ _ l, e)
 
-  pub beyond : length s ≤ at → head_of (drop at s) ≡ none
+  pub beyond : length s ≤ at → head_of (drop at s) ≡ None
   beyond l = go (head_of (drop at s)) refl
     where
-      go : (o : Option Head) → head_of (drop at s) ≡ o → head_of (drop at s) ≡ none
-      go none e = e
-      go (some h) e =
+      go : (o : Option Head) → head_of (drop at s) ≡ o → head_of (drop at s) ≡ None
+      go None e = e
+      go (Some h) e =
           let w = whole (drop at s) h e in
           absurd (omega (arith, w.long, length-drop at s))
 
@@ -101,10 +95,10 @@ module _ (s : List ℕ) (at : ℕ) where
       go true o p q =
           let y : step_of s at ≡ End = step_end s at (leb-true _ _ p) in
           absurd (let z : ◌≡◌ {A = ℕ} 0 1 = cc in omega arith)
-      go false none p q =
+      go false None p q =
           let y : step_of s at ≡ Malformed = nothing-at (leb-false _ _ p) q in
           absurd (let z : ◌≡◌ {A = ℕ} 0 1 = cc in omega arith)
-      go false (some h) p q =
+      go false (Some h) p q =
           let y : ItemAt g a b c d ≡ places_of at h = e ∙ found_at h (leb-false _ _ p) q in
           let w = whole (drop at s) h q in
           let l : length (drop at s) ≡ length s - at = length-drop at s in
@@ -124,25 +118,22 @@ module _ (s : List ℕ) (at : ℕ) where
           }
 
   -- a step that found none
-  pub stopped : (r : Stepped) → r ≡ step_of s at → (tag r ≡ 1) ⊎ (tag r ≡ 2) → head_of (drop at s) ≡ none
+  pub stopped : (r : Stepped) → r ≡ step_of s at → ((g a b c d : ℕ) → r ≡ ItemAt g a b c d → ⊥) → head_of (drop at s) ≡ None
   stopped r e n = go (leb (length s) at) (head_of (drop at s)) refl refl
     where
-      item : (g a b c d : ℕ) → r ≡ ItemAt g a b c d → ⊥
-      item g a b c d y = ⊎_elim (λ q. let z : ◌≡◌ {A = ℕ} 0 1 = sym (ap tag y) ∙ q in omega arith) (λ q. let z : ◌≡◌ {A = ℕ} 0 2 = sym (ap tag y) ∙ q in omega arith) n
-
-      go : (t : Bool) (o : Option Head) → leb (length s) at ≡ t → head_of (drop at s) ≡ o → head_of (drop at s) ≡ none
+      go : (t : Bool) (o : Option Head) → leb (length s) at ≡ t → head_of (drop at s) ≡ o → head_of (drop at s) ≡ None
       go true o p q = beyond (leb-true _ _ p)
-      go false none p q = q
-      go false (some h) p q = absurd (item _ _ _ _ _ (e ∙ found_at h (leb-false _ _ p) q))
+      go false None p q = q
+      go false (Some h) p q = absurd (n _ _ _ _ _ (e ∙ found_at h (leb-false _ _ p) q))
 
 -- ---- one item fewer is left
 
-module _ {s : List ℕ} {at g a b c d : ℕ} (n : ℕ) (t : Taken s at g a b c d) (more : 0 < n) where
-  pub fewer : parse n (drop at s) ≡ map (λ ts. t.head.item ∷ ts) (parse (n - 1) (drop d s))
-  fewer = parse-go n (drop at s) t.head more t.is ∙ rw t.after
+module _ {s : List ℕ} {at g a b c d : ℕ} (n m : ℕ) (t : Taken s at g a b c d) (more : n ≡ m + 1) where
+  pub fewer : parse n (drop at s) ≡ option_map (λ ts. t.head.item ∷ ts) (parse m (drop d s))
+  fewer = parse-go n m (drop at s) t.head more t.is ∙ rw t.after
 
-  pub fewer-some : is_some (parse n (drop at s)) ≡ is_some (parse (n - 1) (drop d s))
-  fewer-some = ap is_some fewer ∙ map-some (λ ts. t.head.item ∷ ts) (parse (n - 1) (drop d s))
+  pub fewer-some : is_some (parse n (drop at s)) ≡ is_some (parse m (drop d s))
+  fewer-some = ap is_some fewer ∙ map-some (λ ts. t.head.item ∷ ts) (parse m (drop d s))
 
 -- the key, as the code takes it
 pub key-part : {s : List ℕ} {at g a b c d : ℕ} (t : Taken s at g a b c d) → take (b - a) (drop a s) ≡ t.head.item.key

@@ -1,6 +1,6 @@
 -- Items as bytes, and items by key (document 01, "Item area, UTF-8 and reading" and "Editing and writing").
 use Rattle.std.specs.Prelude.{ℕ, zero, suc, ◌+◌, ◌/◌, ◌%◌, Bool, cond, List, [], ◌∷◌, ◌++◌, length, take, drop, leb, ltb, eqb}
-use Rattle.std.proofs.Math.Option.{Option, none, some, map}
+use Rattle.std.specs.Prelude.{Option, None, Some, option_map}
 use Rattle.lists.specs.Bytes.{place_of}
 use Rattle.lists.specs.Choice.{found}
 use Rattle.lists.specs.Le.{u32le, read_u32}
@@ -58,8 +58,8 @@ head_at n flags b =
     let k = place_of 0 b in
     let v = drop (k + 1) b in
     cond (leb (k + 1 + n) (length b))
-    (some (record { item = record { key = take k b; value = take n v; flags = flags }; rest = drop n v }))
-    none
+    (Some (record { item = record { key = take k b; value = take n v; flags = flags }; rest = drop n v }))
+    None
 
 -- the first item: none too if fewer than 8 bytes are left, since `drop 8` then leaves nothing
 unfoldable pub head : List ℕ → Option Head
@@ -67,9 +67,9 @@ head s = head_at (read_u32 s 0) (read_u32 s 4) (drop 8 s)
 
 -- exactly n items, and nothing behind them; none: malformed
 unfoldable pub parse : ℕ → List ℕ → Option (List Item)
-parse zero [] = some []
-parse zero (x ∷ s) = none
-parse (suc n) s = found (head s) none (λ h. map (λ ts. h.item ∷ ts) (parse n h.rest))
+parse zero [] = Some []
+parse zero (x ∷ s) = None
+parse (suc n) s = found (head s) None (λ h. option_map (λ ts. h.item ∷ ts) (parse n h.rest))
 
 -- the items of a well-formed area
 abbrev pub items_in : ℕ → List ℕ → List Item
@@ -79,8 +79,8 @@ items_in n s = found (parse n s) [] (λ ts. ts)
 
 -- the value of the first match
 unfoldable pub get_item : List ℕ → List Item → Option (List ℕ)
-get_item key [] = none
-get_item key (t ∷ ts) = cond (same_key key t.key) (some t.value) (get_item key ts)
+get_item key [] = None
+get_item key (t ∷ ts) = cond (same_key key t.key) (Some t.value) (get_item key ts)
 
 -- an item with another value, which is text
 abbrev pub with_value : List ℕ → Item → Item

@@ -1,17 +1,15 @@
 // The item area: exactly `count` items, one after another. It stands for the source's `ApeTag`.
 #![tactic(auto)]
 
-ghost use Rattle.std.specs.Prelude.{◌≡◌, cond, ◌≤◌, ◌<◌, ◌+◌, ◌-◌, length, drop};
+ghost use Rattle.std.specs.Prelude.{◌≡◌, ◌≤◌, ◌+◌, length, drop};
 ghost use Rattle.lists.specs.Choice.{is_some};
-ghost use Rattle.replies.specs.declared.Refusal.TheVariants.{BadKey};
-ghost use Rattle.keys.specs.Keys.{same_key, is_key};
+ghost use Rattle.keys.specs.Keys.{same_key};
 ghost use Rattle.items.specs.Items.{type_of, is_binary, as_text, parse, items_in, count_of};
-ghost use Rattle.items.specs.Answers.{step_of, locate_from, end_of, place_by, count_by, locate_of, find_of, value_of, reply_to, is_there, found_repeated, part_start};
-ghost use Rattle.items.specs.declared.Found.TheVariants.{Value, Refused};
+ghost use Rattle.items.specs.Answers.{step_of, locate_from, end_of, place_by, count_by, locate_of, find_of, value_of, value_start, part_of, part_start, reply_to, is_there, found_repeated};
 
 use replies::Refusal;
 
-// What stands at a place of an area.
+// What stands at a place of an area. Its three answers have names of their own: an `Option` within a `Result` says no more and is no plainer.
 #[derive(Clone, Copy)]
 pub enum Stepped {
     Item {
@@ -25,41 +23,34 @@ pub enum Stepped {
     End,
 }
 
-// Where the first item with a key stands: its start, the end of its key, its end.
+// Where an item stands: its start, the end of its key, its end.
 #[derive(Clone, Copy)]
-pub enum Place {
-    At {
-        start: usize,
-        key_end: usize,
-        end: usize,
-    },
-    Nowhere,
-    Malformed,
+pub struct Place {
+    pub start: usize,
+    pub key_end: usize,
+    pub end: usize,
 }
 
-// The first match: its start, the end of its key, its end, and how many items are left behind it.
+// The first match, and how many items are left behind it.
 #[derive(Clone, Copy)]
-enum FirstMatch {
-    At {
-        start: usize,
-        key_end: usize,
-        end: usize,
-        left: usize,
-    },
-    Nowhere,
-    Malformed,
+struct FirstMatch {
+    place: Place,
+    left: usize,
 }
 
 // Where a value stands, how long it is, and whether a later item has the key too.
 #[derive(Clone, Copy)]
-pub enum Found {
-    Value {
-        start: usize,
-        length: usize,
-        repeated: bool,
-    },
-    Nothing,
-    Refused(Refusal),
+pub struct Found {
+    pub start: usize,
+    pub length: usize,
+    pub repeated: bool,
+}
+
+// How many items there are, and how many bytes they have.
+#[derive(Clone, Copy)]
+pub struct Size {
+    pub count: usize,
+    pub length: usize,
 }
 
 // The type of an item's value, bits 2..1 of its flags: 0 text, 1 binary, 2 external, 3 reserved.
@@ -108,233 +99,142 @@ pub fn step(area: &[u8], at: usize) -> Stepped
 }
 
 // Whether exactly `count` items stand from `at` to the end.
-fn well_formed_from(area: &[u8], at: usize, count: usize) -> bool
+fn well_formed_from(area: &[u8], mut at: usize, count: usize) -> bool
     requires { at ≤ length area.now }
     ensures { result ≡ is_some (parse count (drop at area.now)) }
 {
-    let mut i = at;
-    let mut left = count;
-    while 0 < left {
-        let s = step(area, i);
-        let Stepped::Item {
-            flags: _,
-            key_start: _,
-            key_end: _,
-            value_start: _,
-            value_end,
-        } = s
-        else {
+    for _ in 0..count {
+        let Stepped::Item { value_end, .. } = step(area, at) else {
             return false;
         };
-        i = value_end;
-        left -= 1;
+        at = value_end;
     }
-    i == area.len()
+    at == area.len()
 }
 
 // Whether the area is exactly `count` items.
 pub fn well_formed(area: &[u8], count: usize) -> bool
     ensures { result ≡ is_some (parse count area.now) }
 {
-    if area.len() / 9 < count {
-        return false;
-    }
-    well_formed_from(area, 0, count)
+    count <= area.len() / 9 && well_formed_from(area, 0, count)
 }
 
 // The first item with this key among the `count` from `at` on: what stands behind it is not tested.
-fn first_match(area: &[u8], at: usize, count: usize, key: &[u8]) -> FirstMatch
+fn first_match(
+    area: &[u8],
+    at: usize,
+    count: usize,
+    key: &[u8],
+) -> Result<Option<FirstMatch>, Refusal>
     requires { at ≤ length area.now }
     ensures { let s = area.now in let k = key.now in
         (end_of result ≤ length s) × (locate_from s k at count ≡ place_by s result)
         × (count_of (same_key k) (items_in count (drop at s)) ≡ count_by s k result) }
 {
-    let mut i = at;
-    let mut left = count;
-    while 0 < left {
-        let s = step(area, i);
+    let mut start = at;
+    for i in 0..count {
         let Stepped::Item {
-            flags: _,
             key_start,
             key_end,
-            value_start: _,
-            value_end,
-        } = s
+            value_end: end,
+            ..
+        } = step(area, start)
         else {
-            return FirstMatch::Malformed;
+            return Err(Refusal::MalformedArea);
         };
-        left -= 1;
         if keys::same_key(key, &area[key_start..key_end]) {
-            return FirstMatch::At {
-                start: i,
-                key_end,
-                end: value_end,
-                left,
-            };
+            return Ok(Some(FirstMatch {
+                place: Place {
+                    start,
+                    key_end,
+                    end,
+                },
+                left: count - 1 - i,
+            }));
         }
-        i = value_end;
+        start = end;
     }
-    if i != area.len() {
-        return FirstMatch::Malformed;
+    if start == area.len() {
+        Ok(None)
+    } else {
+        Err(Refusal::MalformedArea)
     }
-    FirstMatch::Nowhere
 }
 
 // The first item with this key among the `count` from `at` to the end, in one pass that also tests them.
-fn locate_from(area: &[u8], at: usize, count: usize, key: &[u8]) -> Place
+fn locate_from(area: &[u8], at: usize, count: usize, key: &[u8]) -> Result<Option<Place>, Refusal>
     requires { at ≤ length area.now }
     ensures { result ≡ locate_from area.now key.now at count }
 {
-    let m = first_match(area, at, count, key);
-    match m {
-        FirstMatch::Malformed => Place::Malformed,
-        FirstMatch::Nowhere => Place::Nowhere,
-        FirstMatch::At {
-            start,
-            key_end,
-            end,
-            left,
-        } => {
-            if !well_formed_from(area, end, left) {
-                return Place::Malformed;
-            }
-            Place::At {
-                start,
-                key_end,
-                end,
-            }
-        }
+    let Some(m) = first_match(area, at, count, key)? else {
+        return Ok(None);
+    };
+    if well_formed_from(area, m.place.end, m.left) {
+        Ok(Some(m.place))
+    } else {
+        Err(Refusal::MalformedArea)
     }
 }
 
 // The first item with this key, in one pass that also tests the area.
-pub fn locate(area: &[u8], count: usize, key: &[u8]) -> Place
+pub fn locate(area: &[u8], count: usize, key: &[u8]) -> Result<Option<Place>, Refusal>
     ensures { result ≡ locate_of area.now count key.now }
 {
     if count > area.len() / 9 {
-        return Place::Malformed;
+        return Err(Refusal::MalformedArea);
     }
     locate_from(area, 0, count, key)
 }
 
-// The value of a match that ends at `end`.
-fn value_at(key: &[u8], key_end: usize, end: usize, repeated: bool) -> Found
-    requires { key_end < end }
-    ensures { result ≡ cond (is_key key.now) (Value (key_end + 1) (end - (key_end + 1)) repeated) (Refused BadKey) }
-{
-    if !keys::is_key(key) {
-        return Found::Refused(Refusal::BadKey);
-    }
-    let start = key_end + 1;
-    Found::Value {
-        start,
-        length: end - start,
-        repeated,
-    }
-}
-
 // The value of the first item with this key, in one pass: refused, none, or its place and whether a later item has the key too.
-pub fn find(area: &[u8], count: usize, key: &[u8]) -> Found
+pub fn find(area: &[u8], count: usize, key: &[u8]) -> Result<Option<Found>, Refusal>
     ensures { result ≡ find_of area.now count key.now }
 {
-    let m = first_match(area, 0, count, key);
-    match m {
-        FirstMatch::Malformed => Found::Refused(Refusal::MalformedArea),
-        FirstMatch::Nowhere => {
-            if !keys::is_key(key) {
-                return Found::Refused(Refusal::BadKey);
-            }
-            Found::Nothing
-        }
-        FirstMatch::At {
-            start: _,
-            key_end,
-            end,
-            left,
-        } => {
-            let later = locate_from(area, end, left, key);
-            match later {
-                Place::Malformed => Found::Refused(Refusal::MalformedArea),
-                Place::Nowhere => value_at(key, key_end, end, false),
-                Place::At {
-                    start: _,
-                    key_end: _,
-                    end: _,
-                } => value_at(key, key_end, end, true),
-            }
-        }
-    }
-}
-
-// The very part of the area that was found, and an empty part at its front where none was.
-pub fn value<'a>(area: &'a [u8], f: Found) -> &'a [u8]
-    ensures { (result.now ≡ value_of area.now f) × (result.ref_ptr.0 ≡ area.entry.ref_ptr.0) × (result.ref_ptr.1 ≡ area.entry.ref_ptr.1 + part_start area.now f) }
-{
-    let Found::Value {
-        start,
-        length: n,
-        repeated: _,
-    } = f
-    else {
-        return &area[0..0];
+    let Some(m) = first_match(area, 0, count, key)? else {
+        return if keys::is_key(key) {
+            Ok(None)
+        } else {
+            Err(Refusal::BadKey)
+        };
     };
-    if area.len() < start {
+    let place = m.place;
+    let later = locate_from(area, place.end, m.left, key)?;
+    if !keys::is_key(key) {
+        return Err(Refusal::BadKey);
+    }
+    let start = place.key_end + 1;
+    Ok(Some(Found {
+        start,
+        length: place.end - start,
+        repeated: later.is_some(),
+    }))
+}
+
+// The very part of the area that was found.
+pub fn part<'a>(area: &'a [u8], f: Found) -> &'a [u8]
+    ensures { (result.now ≡ value_of area.now f) × (result.ref_ptr.0 ≡ area.entry.ref_ptr.0) × (result.ref_ptr.1 ≡ area.entry.ref_ptr.1 + value_start area.now f) }
+{
+    if area.len() < f.start {
         return &area[0..0];
     }
-    if area.len() - start < n {
-        return &area[start..];
+    if area.len() - f.start < f.length {
+        return &area[f.start..];
     }
-    let end = start + n;
-    &area[start..end]
+    &area[f.start..f.start + f.length]
 }
 
-// The number of an answer in document 01's table of replies, and 0 where it is not refused.
-pub fn reply(f: Found) -> u32
-    ensures { result ≡ reply_to f }
+// The very part of the area that an answer of `find` speaks of, and an empty part at its front where nothing was found.
+pub fn value<'a>(area: &'a [u8], answer: Result<Option<Found>, Refusal>) -> &'a [u8]
+    ensures { (result.now ≡ part_of area.now answer) × (result.ref_ptr.0 ≡ area.entry.ref_ptr.0) × (result.ref_ptr.1 ≡ area.entry.ref_ptr.1 + part_start area.now answer) }
 {
-    match f {
-        Found::Value {
-            start: _,
-            length: _,
-            repeated: _,
-        } => 0,
-        Found::Nothing => 0,
-        Found::Refused(r) => replies::number(r),
-    }
-}
-
-// Whether a value was found: a found value may be empty.
-pub fn is_there(f: Found) -> bool
-    ensures { result ≡ is_there f }
-{
-    match f {
-        Found::Value {
-            start: _,
-            length: _,
-            repeated: _,
-        } => true,
-        Found::Nothing => false,
-        Found::Refused(_) => false,
-    }
-}
-
-// Whether a later item has the key too.
-pub fn is_repeated(f: Found) -> bool
-    ensures { result ≡ found_repeated f }
-{
-    match f {
-        Found::Value {
-            start: _,
-            length: _,
-            repeated,
-        } => repeated,
-        Found::Nothing => false,
-        Found::Refused(_) => false,
+    match answer {
+        Ok(Some(f)) => part(area, f),
+        _ => &area[0..0],
     }
 }
 
 // The value itself, in one call: `status` is 0 or the number of the refusal, and `there` says whether a value was found, `repeated` whether a later
-// item has the key too.
+// item has the key too. The three are lent, since the part of the area that it answers is promised to be that very part.
 pub fn get<'a>(
     area: &'a [u8],
     count: usize,
@@ -344,13 +244,23 @@ pub fn get<'a>(
     repeated: &mut bool,
 ) -> &'a [u8]
     ensures { let found = find_of area.now count key.now in
-        (result.now ≡ value_of area.now found) × (result.ref_ptr.0 ≡ area.entry.ref_ptr.0) × (result.ref_ptr.1 ≡ area.entry.ref_ptr.1 + part_start area.now found)
+        (result.now ≡ part_of area.now found) × (result.ref_ptr.0 ≡ area.entry.ref_ptr.0) × (result.ref_ptr.1 ≡ area.entry.ref_ptr.1 + part_start area.now found)
         × (status.new ≡ reply_to found) × (there.new ≡ is_there found)
         × (repeated.new ≡ found_repeated found) }
 {
-    let f = find(area, count, key);
-    *status = reply(f);
-    *there = is_there(f);
-    *repeated = is_repeated(f);
-    value(area, f)
+    let answer = find(area, count, key);
+    *status = 0;
+    *there = false;
+    *repeated = false;
+    match answer {
+        Ok(Some(f)) => {
+            *there = true;
+            *repeated = f.repeated;
+        }
+        Ok(None) => {}
+        Err(r) => {
+            *status = replies::number(r);
+        }
+    }
+    value(area, answer)
 }

@@ -1,19 +1,22 @@
 -- Laws of keys: equality without case is an equivalence, upper-casing keeps a key equal, and the lookup goes by the key without case.
-use Prim.Native.Nat.{ℕ, zero, suc, ◌-◌, ◌≤◌, ◌<◌}
+use Prim.Native.Nat.{ℕ, zero, suc, ◌+◌, ◌-◌, ◌≤◌, ◌<◌}
 use native.Mathlib.Omega.{arith}
 use mathlib.Core.Path.{◌≡◌, refl, sym, ap, ◌∙◌, fun_ext}
 use mathlib.Core.Bool.{Bool, true, false, not, ◌&&◌, ◌||◌, cond, and-eq-true_iff, true≢false}
-use mathlib.Core.Option
-use mathlib.Core.Option.{Option, none, some}
+use Rattle.std.specs.Prelude.{Option, None, Some}
+use Rattle.std.specs.Prelude.{nat_lt}
+use Rattle.std.proofs.lemmas.Grind.{common_steps}
+use Rattle.std.specs.List.{position}
+use Rattle.std.specs.Char.{to_ascii_uppercase}
+use Rattle.std.specs.Prelude.{option_map}
 use mathlib.Core.List.{List, [], ◌∷◌, map, map-map}
 use lib.ListN.{length, get_or, take, drop, length-map}
 use lib.Dec.{leb, eqb}
-use borrow.Author.Tests.{lt-leb, le-leb, leb-true, leb-false, eqb-true, eqb-false, eq-eqb, ne_eqb}
+use borrow.Author.Tests.{lt-leb, le-leb, leb-true, ne_eqb}
 use Rattle.lists.specs.Bytes.{among, all, same, place_of}
 use Rattle.lists.specs.Choice.{found}
 use Rattle.lists.proofs.Same.{and-false, same_true, same_refl, same-unequal}
-use Rattle.keys.specs.Keys.{upper, upper_all, same_key, which_of, keys, which_key, which_is, is_from, is_mp3gain_key, is_undone, undo_key, minmax_key, printable, is_reserved, is_key}
-use Rattle.keys.specs.declared.Which.TheVariants.{Key, Other}
+use Rattle.keys.specs.Keys.{upper, upper_all, same_key, which_of, keys, which_key, is_from, is_mp3gain_key, is_undone, undo_key, minmax_key, printable, is_reserved, is_key}
 
 -- ---- equal without case is equal in upper case
 
@@ -49,6 +52,11 @@ in-range a b x e =
     let (p, q) = (and-eq-true_iff (leb a x) (leb x b)).0 e in
     (leb-true a x p, leb-true x b q)
 
+-- std's word for it
+pub upper-std : (x : ℕ) → to_ascii_uppercase x ≡ upper x
+unfolding upper
+upper-std x = grind arith
+
 upper-twice : (x : ℕ) → upper (upper x) ≡ upper x
 unfolding upper
 upper-twice x = go (among 97 122 x) refl
@@ -56,51 +64,6 @@ upper-twice x = go (among 97 122 x) refl
     go : (t : Bool) → among 97 122 x ≡ t → upper (upper x) ≡ upper x
     go true e = let (l, h) = in-range 97 122 x e in rw (e, lt-leb 97 (x - 32) (omega arith))
     go false e = rw (e, e)
-
--- what is no small letter stays; a small letter becomes its capital
-upper-below : (x : ℕ) → x < 97 → upper x ≡ x
-unfolding upper
-upper-below x h = rw (lt-leb 97 x h)
-
-upper-above : (x : ℕ) → 122 < x → upper x ≡ x
-unfolding upper
-upper-above x h = rw (le-leb 97 x (omega arith), lt-leb x 122 h)
-
-upper-small : (x : ℕ) → 97 ≤ x → x ≤ 122 → upper x ≡ x - 32
-unfolding upper
-upper-small x h k = rw (le-leb 97 x h, le-leb x 122 k)
-
-upper-least : (x : ℕ) → upper x ≤ x
-unfolding upper
-upper-least x = go (among 97 122 x)
-  where
-    go : (t : Bool) → cond t (x - 32) x ≤ x
-    go true = omega arith
-    go false = omega arith
-
-pub eqb_comm : (x y : ℕ) → eqb x y ≡ eqb y x
-eqb_comm x y = go (eqb y x) refl
-  where
-    go : (t : Bool) → eqb y x ≡ t → eqb x y ≡ eqb y x
-    go true e = eq-eqb x y (sym (eqb-true y x e)) ∙ sym e
-    go false e = ne_eqb x y (λ q. eqb-false y x e (sym q)) ∙ sym e
-
--- two bytes with case folded, the lesser first: alike only where the greater is a small letter, and the lesser its capital
-module _ (a b : ℕ) (less : a < b) where
-  pub capital-below : b < 97 → eqb (upper a) (upper b) ≡ false
-  capital-below h = ne_eqb (upper a) (upper b) (λ e. omega (arith, e, less, upper-below b h, upper-least a))
-
-  pub capital-above : 122 < b → eqb (upper a) (upper b) ≡ false
-  capital-above h = ne_eqb (upper a) (upper b) (λ e. omega (arith, e, less, upper-above b h, upper-least a))
-
-  pub capital-small : 97 ≤ b → b ≤ 122 → eqb (upper a) (upper b) ≡ eqb a (b - 32)
-  capital-small h k = go (leb 97 a) refl
-    where
-      go : (t : Bool) → leb 97 a ≡ t → eqb (upper a) (upper b) ≡ eqb a (b - 32)
-      go true e =
-          let l : 97 ≤ a = leb-true 97 a e in
-          ne_eqb (upper a) (upper b) (λ f. omega (arith, f, less, upper-small b h k, upper-small a l (omega (arith, less, k)))) ∙ sym (ne_eqb a (b - 32) (λ f. omega (arith, f, l, k)))
-      go false e = rw (upper-small b h k, upper-below a (leb-false 97 a e))
 
 upper_all-twice : (a : List ℕ) → upper_all (upper_all a) ≡ upper_all a
 unfolding upper_all
@@ -178,46 +141,52 @@ unfolding which_of same_key
 which-same [] a b e = refl
 which-same (n ∷ ns) a b e = rw (key-true a b e, which-same ns a b e)
 
+-- the search, by std's word for it
+place_step : (t : Bool) (n m : ℕ) (o : Option ℕ) → cond (nat_lt n m) (Some n) None ≡ o
+    → cond (nat_lt (cond (not t) (1 + n) 0) (suc m)) (Some (cond (not t) (1 + n) 0)) None ≡ cond t (Some 0) (option_map suc o)
+place_step t n m o e = grind (arith, common_steps)
+
+pub which-place : {X : Type 0} (name : X → List ℕ) (xs : List X) (k : List ℕ) → position (λ (x : X). same_key k (name x)) xs ≡ which_of (map name xs) k
+unfolding which_of
+which-place name [] k = refl
+which-place name (x ∷ xs) k = place_step (same_key k (name x)) _ (length xs) _ (which-place name xs k)
+
 -- the place found is a place of the list, and its name is the key without case
-pub which-is : (ns : List (List ℕ)) (k : List ℕ) (i : ℕ) → which_of ns k ≡ some i → (i < length ns) × (same_key k (get_or ns i []) ≡ true)
+pub which-is : (ns : List (List ℕ)) (k : List ℕ) (i : ℕ) → which_of ns k ≡ Some i → (i < length ns) × (same_key k (get_or ns i []) ≡ true)
 unfolding which_of
 which-is [] k i e = absurd (let z : ◌≡◌ {A = ℕ} 0 1 = cc in omega arith)
 which-is (n ∷ ns) k i e = go (same_key k n) (which_of ns k) refl refl e (which-is ns k)
   where
-    go : (t : Bool) (o : Option ℕ) → same_key k n ≡ t → which_of ns k ≡ o → cond t (some 0) (Option.map suc o) ≡ some i
-        → ((j : ℕ) → which_of ns k ≡ some j → (j < length ns) × (same_key k (get_or ns j []) ≡ true))
+    go : (t : Bool) (o : Option ℕ) → same_key k n ≡ t → which_of ns k ≡ o → cond t (Some 0) (option_map suc o) ≡ Some i
+        → ((j : ℕ) → which_of ns k ≡ Some j → (j < length ns) × (same_key k (get_or ns j []) ≡ true))
         → (i < suc (length ns)) × (same_key k (get_or (n ∷ ns) i []) ≡ true)
     go true o u w e f = let q : ◌≡◌ {A = ℕ} 0 i = cc in rw (← q) (omega arith, u)
-    go false none u w e f = absurd (let z : ◌≡◌ {A = ℕ} 0 1 = cc in omega arith)
-    go false (some j) u w e f = let q : suc j ≡ i = cc in let (l, s) = f j w in rw (← q) (omega arith, s)
+    go false None u w e f = absurd (let z : ◌≡◌ {A = ℕ} 0 1 = cc in omega arith)
+    go false (Some j) u w e f = let q : suc j ≡ i = cc in let (l, s) = f j w in rw (← q) (omega arith, s)
 
 -- a key is none of names that have other lengths
-pub which-length : (m n : ℕ) (ns : List (List ℕ)) (k : List ℕ) → among m n (length k) ≡ false → all_lengths m n ns ≡ true → which_of ns k ≡ none
+pub which-length : (m n : ℕ) (ns : List (List ℕ)) (k : List ℕ) → among m n (length k) ≡ false → all_lengths m n ns ≡ true → which_of ns k ≡ None
 unfolding which_of
 which-length m n [] k h e = refl
 which-length m n (x ∷ ns) k h e =
     let (p, q) = (and-eq-true_iff (among m n (length x)) (all_lengths m n ns)).0 e in
     rw (key-unequal k x (λ l. true≢false (sym p ∙ ap (among m n) (sym l) ∙ h)), which-length m n ns k h q)
 
-pub short-key : (k : List ℕ) → length k < 12 → which_key k ≡ none
+pub short-key : (k : List ℕ) → length k < 12 → which_key k ≡ None
 unfolding which_key keys
 short-key k h = which-length 12 21 keys k (rw (lt-leb 12 (length k) h)) refl
 
-pub long-key : (k : List ℕ) → 21 < length k → which_key k ≡ none
+pub long-key : (k : List ℕ) → 21 < length k → which_key k ≡ None
 unfolding which_key keys
 long-key k h = which-length 12 21 keys k (rw (lt-leb (length k) 21 h) (and-false (leb 12 (length k)))) refl
 
--- what an answer of the code says
-pub which-some : (o : Option ℕ) (i : ℕ) → Key i ≡ which_is o → o ≡ some i
-which-some none i e = absurd (let z : ◌≡◌ {A = ℕ} 0 1 = cc in omega arith)
-which-some (some j) i e = cc
-
-pub which-none : (o : Option ℕ) → Other ≡ which_is o → o ≡ none
-which-none none e = refl
-which-none (some j) e = absurd (let z : ◌≡◌ {A = ℕ} 0 1 = cc in omega arith)
+-- a key has one of eight places
+pub which-below : (k : List ℕ) (i : ℕ) → which_key k ≡ Some i → i < 8
+unfolding which_key keys
+which-below k i e = (which-is keys k i e).0
 
 -- the eight keys are good keys, each found at its place
-pub keys_found : (map which_key keys ≡ some 0 ∷ some 1 ∷ some 2 ∷ some 3 ∷ some 4 ∷ some 5 ∷ some 6 ∷ some 7 ∷ [])
+pub keys_found : (map which_key keys ≡ Some 0 ∷ Some 1 ∷ Some 2 ∷ Some 3 ∷ Some 4 ∷ Some 5 ∷ Some 6 ∷ Some 7 ∷ [])
     × (map is_key keys ≡ true ∷ true ∷ true ∷ true ∷ true ∷ true ∷ true ∷ true ∷ [])
 unfolding keys which_key which_of same_key same upper_all upper is_key is_reserved all
 keys_found = (refl, refl)
@@ -233,8 +202,8 @@ unfolding is_from
 from_less m n h key e = go (which_key key) e
   where
     go : (o : Option ℕ) → found o false (λ i. leb n i) ≡ true → found o false (λ i. leb m i) ≡ true
-    go none e = e
-    go (some i) e = let l : n ≤ i = leb-true n i e in le-leb m i (omega arith)
+    go None e = e
+    go (Some i) e = let l : n ≤ i = leb-true n i e in le-leb m i (omega arith)
 
 -- UNDONE_KEYS and REPLAYGAIN_KEYS are of the eight
 pub undone-eight : (key : List ℕ) → is_undone key ≡ true → is_mp3gain_key key ≡ true
@@ -245,12 +214,12 @@ pub eight_are : (k : List ℕ) → is_mp3gain_key k ≡ (is_undone k || (same_ke
 unfolding is_from which_key which_of keys undo_key minmax_key
 eight_are k = rw (key-comm undo_key k, key-comm minmax_key k) (go (same_key k undo_key) (same_key k minmax_key) (which_of (drop 2 keys) k))
   where
-    go : (a b : Bool) (o : Option ℕ) → found (cond a (some 0) (Option.map suc (cond b (some 0) (Option.map suc o)))) false (λ i. leb 0 i)
-        ≡ (found (cond a (some 0) (Option.map suc (cond b (some 0) (Option.map suc o)))) false (λ i. leb 2 i) || (a || b))
+    go : (a b : Bool) (o : Option ℕ) → found (cond a (Some 0) (option_map suc (cond b (Some 0) (option_map suc o)))) false (λ i. leb 0 i)
+        ≡ (found (cond a (Some 0) (option_map suc (cond b (Some 0) (option_map suc o)))) false (λ i. leb 2 i) || (a || b))
     go true b o = refl
     go false true o = refl
-    go false false none = refl
-    go false false (some i) = rw (le-leb 0 (suc (suc i)) (omega arith), le-leb 2 (suc (suc i)) (omega arith))
+    go false false None = refl
+    go false false (Some i) = rw (le-leb 0 (suc (suc i)) (omega arith), le-leb 2 (suc (suc i)) (omega arith))
 
 -- the keys that level sets are of the eight, and none of UNDONE_KEYS
 pub undo-eight : (is_mp3gain_key undo_key ≡ true) × (is_mp3gain_key minmax_key ≡ true)

@@ -1,11 +1,8 @@
 -- Keys of items (document 01, "Editing and writing", and refusal 3).
-use Rattle.std.specs.Prelude.{ℕ, suc, ◌-◌, Bool, false, not, ◌&&◌, cond, List, [], ◌∷◌, map, length, leb}
-use Rattle.std.proofs.Math.Option
-use Rattle.std.proofs.Math.Option.{Option, none, some}
+use Rattle.std.specs.Prelude.{ℕ, suc, ◌-◌, Bool, false, not, ◌&&◌, cond, List, [], ◌∷◌, map, length, leb, Option, None, Some, option_map}
 use Rattle.lists.specs.Bytes.{ascii, among, all, same}
 use Rattle.lists.specs.Choice.{found, is_some}
-use Rattle.keys.specs.declared.Which.{Which}
-use Rattle.keys.specs.declared.Which.TheVariants.{Key, Other}
+use Rattle.keys.specs.declared.Key as n
 
 -- the capital of a small letter in ASCII, and any other byte as it is
 unfoldable pub upper : ℕ → ℕ
@@ -21,8 +18,8 @@ same_key a b = same (upper_all a) (upper_all b)
 
 -- the place of the first name that is the key with case folded
 unfoldable pub which_of : List (List ℕ) → List ℕ → Option ℕ
-which_of [] k = none
-which_of (n ∷ ns) k = cond (same_key k n) (some 0) (Option.map suc (which_of ns k))
+which_of [] k = None
+which_of (n ∷ ns) k = cond (same_key k n) (Some 0) (option_map suc (which_of ns k))
 
 -- the eight keys: MP3GAIN_VALUE_KEYS
 unfoldable pub keys : List (List ℕ)
@@ -35,10 +32,16 @@ keys =
 unfoldable pub which_key : List ℕ → Option ℕ
 which_key k = which_of keys k
 
--- the same as an answer of the code
-abbrev pub which_is : Option ℕ → Which
-which_is none = Other
-which_is (some i) = Key i
+-- the place of each of the eight keys
+abbrev pub place_of : n.Key → ℕ
+place_of n.TheVariants.Undo = 0
+place_of n.TheVariants.Minmax = 1
+place_of n.TheVariants.AlbumMinmax = 2
+place_of n.TheVariants.TrackGain = 3
+place_of n.TheVariants.TrackPeak = 4
+place_of n.TheVariants.AlbumGain = 5
+place_of n.TheVariants.AlbumPeak = 6
+place_of n.TheVariants.Algorithm = 7
 
 -- one of the eight, in any letter case, from the one at a place on
 unfoldable pub is_from : ℕ → List ℕ → Bool

@@ -1,10 +1,10 @@
 // Keys of items: compared without regard to the case of ASCII letters, the eight keys of mp3gain, and the rule for a key.
 #![tactic(auto)]
 
-ghost use Rattle.std.specs.Prelude.{◌≡◌, ◌≤◌, ◌<◌, ◌+◌, eqb, length, take, drop};
+ghost use Rattle.std.specs.Prelude.{◌≡◌, ◌≤◌, ◌<◌, ◌+◌, eqb, length, take, drop, map, option_map, IsTrue, ◌↔◌};
 ghost use Rattle.lists.specs.Bytes.{all};
 ghost use Rattle.lists.specs.Write.{splice};
-ghost use Rattle.keys.specs.Keys.{upper, upper_all, same_key, printable, which_key, which_is, is_from, is_mp3gain_key, is_undone, is_replay_gain, is_reserved, is_key};
+ghost use Rattle.keys.specs.Keys.{upper, upper_all, same_key, printable, which_of, which_key, place_of, is_from, is_mp3gain_key, is_undone, is_replay_gain, is_reserved, is_key};
 
 // The gain steps that undo an apply, `left,right,W|N`.
 pub const TAG_MP3GAIN_UNDO: [u8; 12] = *b"MP3GAIN_UNDO";
@@ -25,94 +25,36 @@ pub const TAG_REPLAYGAIN_ALBUM_PEAK: [u8; 21] = *b"REPLAYGAIN_ALBUM_PEAK";
 
 pub const TAG_REPLAYGAIN_ALGORITHM: [u8; 20] = *b"REPLAYGAIN_ALGORITHM";
 
-// A fixed key: its length and its text, with zeros behind it.
-#[derive(Clone, Copy)]
-pub struct Name {
-    pub len: usize,
-    pub text: [u8; 21],
-}
-
-// The eight keys in the order of MP3GAIN_VALUE_KEYS.
-const MP3GAIN_VALUE_KEYS: [Name; 8] = [
-    Name {
-        len: 12,
-        text: *b"MP3GAIN_UNDO\0\0\0\0\0\0\0\0\0",
-    },
-    Name {
-        len: 14,
-        text: *b"MP3GAIN_MINMAX\0\0\0\0\0\0\0",
-    },
-    Name {
-        len: 20,
-        text: *b"MP3GAIN_ALBUM_MINMAX\0",
-    },
-    Name {
-        len: 21,
-        text: *b"REPLAYGAIN_TRACK_GAIN",
-    },
-    Name {
-        len: 21,
-        text: *b"REPLAYGAIN_TRACK_PEAK",
-    },
-    Name {
-        len: 21,
-        text: *b"REPLAYGAIN_ALBUM_GAIN",
-    },
-    Name {
-        len: 21,
-        text: *b"REPLAYGAIN_ALBUM_PEAK",
-    },
-    Name {
-        len: 20,
-        text: *b"REPLAYGAIN_ALGORITHM\0",
-    },
+// The eight keys.
+const MP3GAIN_VALUE_KEYS: [&[u8]; 8] = [
+    &TAG_MP3GAIN_UNDO,
+    &TAG_MP3GAIN_MINMAX,
+    &TAG_MP3GAIN_ALBUM_MINMAX,
+    &TAG_REPLAYGAIN_TRACK_GAIN,
+    &TAG_REPLAYGAIN_TRACK_PEAK,
+    &TAG_REPLAYGAIN_ALBUM_GAIN,
+    &TAG_REPLAYGAIN_ALBUM_PEAK,
+    &TAG_REPLAYGAIN_ALGORITHM,
 ];
 
-// Which of the eight keys a key is: its place in MP3GAIN_VALUE_KEYS.
-#[derive(Clone, Copy)]
-pub enum Which {
-    Key(usize),
-    Other,
-}
-
-// The capital of a small letter in ASCII, and any other byte as it is.
-pub fn upper_case(b: u8) -> u8
-    ensures { result ≡ upper b }
+// Whether the first byte is the capital of the second.
+fn is_capital_of(capital: u8, small: u8) -> bool
+    ensures { IsTrue result ↔ ((97 ≤ small) × (small ≤ 122) × (capital + 32 ≡ small)) }
 {
-    if b < 97 {
-        return b;
-    }
-    if b > 122 {
-        return b;
-    }
-    b - 32
+    small.is_ascii_lowercase() && capital == small - 32
 }
 
-// Whether the lesser of two bytes is the capital of the greater.
-fn is_capital_of(lesser: u8, greater: u8) -> bool
-    requires { lesser < greater }
-    ensures { result ≡ eqb (upper lesser) (upper greater) }
-{
-    if greater < 97 {
-        return false;
-    }
-    if greater > 122 {
-        return false;
-    }
-    lesser == greater - 32
-}
-
-// Whether two bytes are equal but for the case of a letter.
+// Whether two bytes are equal but for the case of a letter. Of two that differ, the lesser is the capital.
 fn same_letter(a: u8, b: u8) -> bool
     ensures { result ≡ eqb (upper a) (upper b) }
 {
     if a == b {
-        return true;
+        true
+    } else if a < b {
+        is_capital_of(a, b)
+    } else {
+        is_capital_of(b, a)
     }
-    if a < b {
-        return is_capital_of(a, b);
-    }
-    is_capital_of(b, a)
 }
 
 // Whether the two are equal but for the case of their letters. Keys often begin alike, so the last letters are compared first.
@@ -122,9 +64,7 @@ pub fn same_key(a: &[u8], b: &[u8]) -> bool
     if a.len() != b.len() {
         return false;
     }
-    let mut i = a.len();
-    while 0 < i {
-        i -= 1;
+    for i in (0..a.len()).rev() {
         if !same_letter(a[i], b[i]) {
             return false;
         }
@@ -137,48 +77,63 @@ pub fn put_upper(out: &mut [u8], at: usize, src: &[u8]) -> usize
     requires { at + length src.now ≤ length out.old }
     ensures { (result ≡ at + length src.now) × (out.new ≡ splice out.old at (upper_all src.now)) }
 {
-    let mut i = 0;
-    while i < src.len() {
-        out[at + i] = upper_case(src[i]);
-        i += 1;
+    for (i, &b) in src.iter().enumerate() {
+        out[at + i] = b.to_ascii_uppercase();
     }
-    at + i
+    at + src.len()
 }
 
-// Looks a key up in the table, without regard to case. Most keys are shorter than each of the eight, so the lengths are tested before
-// the table is set up.
-pub fn which_key(key: &[u8]) -> Which
-    ensures { result ≡ which_is (which_key key.now) }
+// The place of a key among these names, without regard to case.
+fn place_in(names: &[&[u8]], key: &[u8]) -> Option<usize>
+    ensures { result ≡ which_of (map (λ n. n.now) names.now) key.now }
 {
-    if key.len() < 12 {
-        return Which::Other;
+    names.iter().position(|name| same_key(key, name))
+}
+
+// The place of a key in MP3GAIN_VALUE_KEYS, without regard to case. Most keys are shorter than each of the eight, so the length is tested first.
+pub fn which_key(key: &[u8]) -> Option<usize>
+    ensures { result ≡ which_key key.now }
+{
+    if key.len() < 12 || key.len() > 21 {
+        return None;
     }
-    if key.len() > 21 {
-        return Which::Other;
-    }
-    let table = MP3GAIN_VALUE_KEYS;
-    let mut i = 0;
-    while i < 8 {
-        let name = table[i];
-        let n = name.len;
-        let text = name.text;
-        if same_key(key, &text[0..n]) {
-            return Which::Key(i);
-        }
-        i += 1;
-    }
-    Which::Other
+    place_in(&MP3GAIN_VALUE_KEYS, key)
+}
+
+// The eight keys by name, in the order of MP3GAIN_VALUE_KEYS.
+#[derive(Clone, Copy)]
+pub enum Key {
+    Undo,
+    Minmax,
+    AlbumMinmax,
+    TrackGain,
+    TrackPeak,
+    AlbumGain,
+    AlbumPeak,
+    Algorithm,
+}
+
+// Which of the eight keys it is, by name.
+pub fn known_key(key: &[u8]) -> Option<Key>
+    ensures { which_key key.now ≡ option_map place_of result }
+{
+    Some(match which_key(key)? {
+        0 => Key::Undo,
+        1 => Key::Minmax,
+        2 => Key::AlbumMinmax,
+        3 => Key::TrackGain,
+        4 => Key::TrackPeak,
+        5 => Key::AlbumGain,
+        6 => Key::AlbumPeak,
+        _ => Key::Algorithm,
+    })
 }
 
 // Whether it is one of the eight keys, from the one at a place on.
 fn is_from(key: &[u8], first: usize) -> bool
     ensures { result ≡ is_from first key.now }
 {
-    let w = which_key(key);
-    let Which::Key(i) = w else {
-        return false;
-    };
-    first <= i
+    which_key(key).is_some_and(|i| first <= i)
 }
 
 // Whether it is one of the eight keys.
@@ -206,100 +161,58 @@ pub fn is_replaygain(key: &[u8]) -> bool
 fn is_printable(b: u8) -> bool
     ensures { result ≡ printable b }
 {
-    if b < 0x20 {
-        return false;
-    }
-    b <= 0x7E
+    matches!(b, 0x20..=0x7E)
 }
 
-// Whether every byte is. Four bytes are read for one test of the end.
-fn printable_by_fours(s: &[u8]) -> bool
+// Whether N bytes from `at` are.
+fn printable_block<const N: usize>(s: &[u8], at: usize) -> bool
+    requires { at + N ≤ length s.now }
+    ensures { result ≡ all printable (take N (drop at s.now)) }
+{
+    lists::all_of::<N, _>(s, at, is_printable)
+}
+
+// Whether every byte is, N at a time: the last N, and then the blocks from the start, of which the last may reach into those N.
+fn printable_by<const N: usize>(s: &[u8]) -> bool
+    requires { (0 < N) × (N ≤ length s.now) }
     ensures { result ≡ all printable s.now }
 {
-    let mut i = 0;
-    while 4 <= s.len() - i {
-        let mut k = 0;
-        while k < 4 {
-            if !is_printable(s[i + k]) {
-                return false;
-            }
-            k += 1;
-        }
-        i += 4;
+    let last = s.len() - N;
+    if !printable_block::<N>(s, last) {
+        return false;
     }
-    while i < s.len() {
-        if !is_printable(s[i]) {
+    for at in (0..last).step_by(N) {
+        if !printable_block::<N>(s, at) {
             return false;
         }
-        i += 1;
     }
     true
 }
 
-// Whether sixteen bytes from `at` are. All are looked at, so that the compiler tests them at once.
-fn printable_16(s: &[u8], at: usize) -> bool
-    requires { at + 16 ≤ length s.now }
-    ensures { result ≡ all printable (take 16 (drop at s.now)) }
-{
-    let mut other = false;
-    let mut n = 0;
-    while n < 16 {
-        other = other | !is_printable(s[at + n]);
-        n += 1;
-    }
-    !other
-}
-
-// Whether every byte is, sixteen at a time where there are as many: the last sixteen, and then the blocks from the start, of which the last
-// may reach into those sixteen.
+// Whether every byte is.
 fn all_printable(s: &[u8]) -> bool
     ensures { result ≡ all printable s.now }
 {
-    if s.len() < 16 {
-        return printable_by_fours(s);
+    match s.len() {
+        0..=3 => s.iter().all(|b| is_printable(*b)),
+        4..=15 => printable_by::<4>(s),
+        _ => printable_by::<16>(s),
     }
-    let last = s.len() - 16;
-    if !printable_16(s, last) {
-        return false;
-    }
-    let mut at = 0;
-    while at < last {
-        if !printable_16(s, at) {
-            return false;
-        }
-        at += 16;
-    }
-    true
 }
 
 // Whether the APEv2 specification keeps the key for others.
 fn is_reserved(key: &[u8]) -> bool
     ensures { result ≡ is_reserved key.now }
 {
-    if same_key(key, b"ID3") {
-        return true;
-    }
-    if same_key(key, b"TAG") {
-        return true;
-    }
-    if same_key(key, b"OggS") {
-        return true;
-    }
-    same_key(key, b"MP+")
+    same_key(key, b"ID3")
+        || same_key(key, b"TAG")
+        || same_key(key, b"OggS")
+        || same_key(key, b"MP+")
 }
 
 // The rule for a key, which refusal 3 stands for.
 pub fn is_key(key: &[u8]) -> bool
     ensures { result ≡ is_key key.now }
 {
-    if key.len() < 2 {
-        return false;
-    }
-    if key.len() > 255 {
-        return false;
-    }
-    if !all_printable(key) {
-        return false;
-    }
-    !is_reserved(key)
+    2 <= key.len() && key.len() <= 255 && all_printable(key) && !is_reserved(key)
 }

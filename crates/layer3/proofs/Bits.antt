@@ -36,6 +36,17 @@ weight_is o = go (o % 8) (omega arith)
     go (suc (suc (suc (suc (suc (suc (suc zero))))))) h = by2
     go (suc (suc (suc (suc (suc (suc (suc (suc r)))))))) h = absurd (omega arith)
 
+-- each is a positive number of nine bits
+pub weight-some : {k : ℕ} → Weight k → (1 * k % 4294967296 ≡ k) × (0 < 1 * k % 4294967296) × (1 * k % 4294967296 ≤ 256)
+weight-some by256 = omega arith
+weight-some by128 = omega arith
+weight-some by64 = omega arith
+weight-some by32 = omega arith
+weight-some by16 = omega arith
+weight-some by8 = omega arith
+weight-some by4 = omega arith
+weight-some by2 = omega arith
+
 -- what was put there is there
 bits_back : {k : ℕ} → Weight k → (w v : ℕ) → v < 256 → bits_of k (with_bits k w v) ≡ v
 unfolding with_bits

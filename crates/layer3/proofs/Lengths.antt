@@ -7,7 +7,7 @@ use lib.Dec.{leb}
 use borrow.Author.Tests.{leb-true, eqb-false, not-true}
 use Rattle.keys.proofs.Lists.{all_below, below}
 use Rattle.layer3.specs.declared.Frame.{Frame}
-use Rattle.layer3.specs.declared.Header.TheVariants.{Valid, Invalid}
+use Rattle.std.specs.Prelude.{None, Some}
 use Rattle.layer3.specs.Header.{is_mpeg1, has_sync, is_layer3, has_emphasis, has_rate, has_sampling, unpadded_size, is_valid, frame_of, header_of}
 use Rattle.layer3.specs.Fields.{fields_from}
 use Rattle.layer3.proofs.Fields.{Spread, Spaced, spaced}
@@ -52,11 +52,11 @@ valid-long a b c d e =
     let (s, _) = (and-eq-true_iff (has_sampling c) (has_emphasis d)).0 e3 in
     record { least = omega (arith, plain-rates (is_mpeg1 b) c r s) }
 
-pub header-long : (a b c d : ℕ) (h : Frame) → header_of a b c d ≡ Valid h → Long h
+pub header-long : (a b c d : ℕ) (h : Frame) → header_of a b c d ≡ Some h → Long h
 unfolding header_of
 header-long a b c d h e = go (is_valid a b c d) refl e
   where
-    go : (t : Bool) → is_valid a b c d ≡ t → cond t (Valid (frame_of b c d)) Invalid ≡ Valid h → Long h
+    go : (t : Bool) → is_valid a b c d ≡ t → cond t (Some (frame_of b c d)) None ≡ Some h → Long h
     go true q e = let g : frame_of b c d ≡ h = cc in rw (← g) (valid-long a b c d q)
     go false q e = absurd (let z : ◌≡◌ {A = ℕ} 0 1 = cc in omega arith)
 

@@ -1,75 +1,95 @@
--- Laws of the gain fields of one frame, by the places that the code has: inside the frame, and which they are.
-use Prim.Native.Nat.{ℕ, ◌+◌, ◌*◌, ◌/◌, ◌≤◌, ◌<◌}
+-- Laws of the gain fields of one frame, by the places that the code has: granule by granule, and each inside the frame.
+use Prim.Native.Nat.{ℕ, zero, suc, ◌+◌, ◌-◌, ◌*◌, ◌/◌, ◌≤◌, ◌<◌}
 use native.Mathlib.Omega.{arith}
-use mathlib.Core.Path.{◌≡◌}
+use mathlib.Core.Path.{◌≡◌, refl}
 use mathlib.Core.Bool.{Bool, true, false, cond}
 use mathlib.Core.List.{List, [], ◌∷◌}
 use Rattle.layer3.specs.declared.Frame.{Frame}
 use Rattle.layer3.specs.Sizes.{LongFrame}
-use Rattle.layer3.specs.Fields.{Field, left, right, side_start, before_granules, channel_bits, before_gain, gain_at, fields_from}
+use Rattle.layer3.specs.Fields.{Field, left, right, place_of, side_start, before_granules, channel_bits, before_gain, gain_at, fields_from}
+use Rattle.layer3.proofs.Fields.{Spread, more}
+use Rattle.layer3.proofs.Lengths.{fields-spread}
 
--- fields at four places, by channels and granules
-unfoldable pub list_of : Bool → Bool → ℕ → ℕ → ℕ → ℕ → List Field
-list_of m e a b c d = cond m (left a ∷ cond e (left b ∷ []) []) (left a ∷ right b ∷ cond e (left c ∷ right d ∷ []) [])
+-- the fields of so many granules, of one channel or of two
+unfoldable pub granules : ℕ → Bool → ℕ → ℕ → List Field
+granules zero mono bit next = []
+granules (suc n) mono bit next = left bit ∷ cond mono (granules n mono (bit + next) next) (right (bit + next) ∷ granules n mono (bit + next + next) next)
 
-module _ (at : ℕ) (h : Frame) (bit next : ℕ) (first-is : bit ≡ 8 * at + (side_start h + before_granules h + before_gain)) (next-is : next ≡ channel_bits h) where
-  -- its fields stand inside the frame
-  module _ (long : LongFrame h) (n : ℕ) (ends : at + h.size ≤ n) where
-    inside : (f m c : Bool) → cond f 96 24 ≤ h.size
-        → ((8 * at + (cond c 48 32 + cond f (cond m 18 20) (cond m 9 10) + 21)) / 8 + 1 < n)
-        × ((8 * at + (cond c 48 32 + cond f (cond m 18 20) (cond m 9 10) + 21) + cond f 59 63) / 8 + 1 < n)
-        × (f ≡ true → ((8 * at + (cond c 48 32 + cond f (cond m 18 20) (cond m 9 10) + 21) + 2 * cond f 59 63) / 8 + 1 < n)
-        × ((8 * at + (cond c 48 32 + cond f (cond m 18 20) (cond m 9 10) + 21) + 3 * cond f 59 63) / 8 + 1 < n))
-    inside true true true l = (omega arith, omega arith, λ e. (omega arith, omega arith))
-    inside true true false l = (omega arith, omega arith, λ e. (omega arith, omega arith))
-    inside true false true l = (omega arith, omega arith, λ e. (omega arith, omega arith))
-    inside true false false l = (omega arith, omega arith, λ e. (omega arith, omega arith))
-    inside false true true l = (omega arith, omega arith, λ e. absurd (let z : ◌≡◌ {A = ℕ} 0 1 = cc in omega arith))
-    inside false true false l = (omega arith, omega arith, λ e. absurd (let z : ◌≡◌ {A = ℕ} 0 1 = cc in omega arith))
-    inside false false true l = (omega arith, omega arith, λ e. absurd (let z : ◌≡◌ {A = ℕ} 0 1 = cc in omega arith))
-    inside false false false l = (omega arith, omega arith, λ e. absurd (let z : ◌≡◌ {A = ℕ} 0 1 = cc in omega arith))
+pub fields-are : (at : ℕ) (h : Frame) (bit next : ℕ) → bit ≡ 8 * at + (side_start h + before_granules h + before_gain) → next ≡ channel_bits h
+    → (k : ℕ) → k ≡ cond h.mpeg1 2 1 → fields_from (8 * at) h ≡ granules k h.mono bit next
+unfolding fields_from granules
+fields-are at h bit next first-is next-is k count-is =
+    let p0 : 8 * at + gain_at h 0 ≡ bit = omega arith in
+    let p1 : 8 * at + gain_at h 1 ≡ bit + next = omega arith in
+    let p2 : 8 * at + gain_at h 2 ≡ bit + next + next = omega arith in
+    let p3 : 8 * at + gain_at h 3 ≡ bit + next + next + next = omega arith in
+    rw (p0, p1, p2, p3, count-is) (go h.mono h.mpeg1)
+  where
+    go : (m e : Bool) → cond m (left bit ∷ cond e (left (bit + next) ∷ []) []) (left bit ∷ right (bit + next) ∷ cond e (left (bit + next + next) ∷ right (bit + next + next + next) ∷ []) [])
+        ≡ granules (cond e 2 1) m bit next
+    go true true = refl
+    go true false = refl
+    go false true = refl
+    go false false = refl
 
-    abbrev all-inside : ((bit / 8 + 1 < n) × ((bit + next) / 8 + 1 < n) × (h.mpeg1 ≡ true → ((bit + 2 * next) / 8 + 1 < n) × ((bit + 3 * next) / 8 + 1 < n)))
-    all-inside = rw (first-is, next-is) (inside h.mpeg1 h.mono h.checksum long)
+-- each field stands in two of the first n bytes
+abbrev pub Within : ℕ → List Field → Type 0
+Within n [] = Unit {0}
+Within n (f ∷ fs) = (place_of f / 8 + 1 < n) × Within n fs
 
-    pub in-0 : bit / 8 + 1 < n
-    in-0 = all-inside.0
+spread-within : {k e : ℕ} (n : ℕ) (fs : List Field) → e ≤ n → Spread k e fs → Within n fs
+spread-within n [] h p = tt
+spread-within {k = k} n (f ∷ fs) h (more a b c p) = (omega arith, spread-within {k = place_of f / 8 + 2} n fs h p)
 
-    pub in-1 : (bit + next) / 8 + 1 < n
-    in-1 = all-inside.1
+-- the fields of the granules that are left stand in the first n bytes
+pub record Inside (n k : ℕ) (mono : Bool) (bit next : ℕ) : Type 0 where
+  pub fields : Within n (granules k mono bit next)
 
-    pub in-2 : h.mpeg1 ≡ true → (bit + 2 * next) / 8 + 1 < n
-    in-2 e = (all-inside.2 e).0
+-- all granules of a frame
+pub frame-inside : (at : ℕ) (h : Frame) (n : ℕ) → LongFrame h → at + h.size ≤ n → {k bit next : ℕ} → bit ≡ 8 * at + (side_start h + before_granules h + before_gain) → next ≡ channel_bits h
+    → k ≡ cond h.mpeg1 2 1 → Inside n k h.mono bit next
+frame-inside at h n long ends f g e =
+    record { fields = rw (← fields-are at h _ _ f g _ e) (spread-within n (fields_from (8 * at) h) ends (fields-spread at h (record { least = long }))) }
 
-    pub in-3 : h.mpeg1 ≡ true → (bit + 3 * next) / 8 + 1 < n
-    in-3 e = (all-inside.2 e).1
+pub few-bits : (h : Frame) → channel_bits h ≤ 63
+few-bits h = go h.mpeg1
+  where
+    go : (t : Bool) → cond t 59 63 ≤ 63
+    go true = omega arith
+    go false = omega arith
 
-  pub fields-are : fields_from (8 * at) h ≡ list_of h.mono h.mpeg1 bit (bit + next) (bit + 2 * next) (bit + 3 * next)
-  unfolding fields_from list_of
-  fields-are =
-      let p0 : 8 * at + gain_at h 0 ≡ bit = omega arith in
-      let p1 : 8 * at + gain_at h 1 ≡ bit + next = omega arith in
-      let p2 : 8 * at + gain_at h 2 ≡ bit + 2 * next = omega arith in
-      let p3 : 8 * at + gain_at h 3 ≡ bit + 3 * next = omega arith in
-      λ i. list_of h.mono h.mpeg1 (p0 i) (p1 i) (p2 i) (p3 i)
+pub two-granules : (h : Frame) → cond h.mpeg1 2 1 ≤ 2
+two-granules h = go h.mpeg1
+  where
+    go : (t : Bool) → cond t 2 1 ≤ 2
+    go true = omega arith
+    go false = omega arith
 
--- ---- where the first field begins and the next one follows, by the tests of the code
+-- a loop over n granules, at i
+pub one-more : (n i : ℕ) → i < n → n - i ≡ suc (n - (i + 1))
+one-more n i h = omega arith
 
-module _ (at : ℕ) (h : Frame) (side : ℕ) (side-is : side ≡ 8 * at + side_start h) where
-  pub mono-two-at : h.mono ≡ true → h.mpeg1 ≡ true → side + 39 ≡ 8 * at + (side_start h + before_granules h + before_gain)
-  mono-two-at m e = rw (m, e) (omega arith)
+-- none is left
+pub no-granules : (k : ℕ) (mono : Bool) (bit next : ℕ) → k ≡ 0 → granules k mono bit next ≡ []
+unfolding granules
+no-granules k mono bit next e = rw e
 
-  pub mono-one-at : h.mono ≡ true → h.mpeg1 ≡ false → side + 30 ≡ 8 * at + (side_start h + before_granules h + before_gain)
-  mono-one-at m e = rw (m, e) (omega arith)
+-- one more is
+module _ {n k : ℕ} {mono : Bool} {bit next : ℕ} (w : Inside n k mono bit next) (j : ℕ) (more : k ≡ suc j) where
+  pub first-in : bit / 8 + 1 < n
+  unfolding granules
+  first-in = (rw more at w.fields).0
 
-  pub stereo-two-at : h.mono ≡ false → h.mpeg1 ≡ true → side + 41 ≡ 8 * at + (side_start h + before_granules h + before_gain)
-  stereo-two-at m e = rw (m, e) (omega arith)
+  module _ (e : mono ≡ true) where
+    pub rest-mono : Inside n j mono (bit + next) next
+    unfolding granules
+    rest-mono = record { fields = rw e (rw (more, e) at w.fields).1 }
 
-  pub stereo-one-at : h.mono ≡ false → h.mpeg1 ≡ false → side + 31 ≡ 8 * at + (side_start h + before_granules h + before_gain)
-  stereo-one-at m e = rw (m, e) (omega arith)
+  module _ (e : mono ≡ false) where
+    pub second-in : (bit + next) / 8 + 1 < n
+    unfolding granules
+    second-in = (rw (more, e) at w.fields).1.0
 
-pub next-two : (h : Frame) → h.mpeg1 ≡ true → 59 ≡ channel_bits h
-next-two h e = rw e
-
-pub next_one : (h : Frame) → h.mpeg1 ≡ false → 63 ≡ channel_bits h
-next_one h e = rw e
+    pub rest-stereo : Inside n j mono (bit + next + next) next
+    unfolding granules
+    rest-stereo = record { fields = rw e (rw (more, e) at w.fields).1.1 }

@@ -1,7 +1,7 @@
 -- Headers, gain fields and walks as examples. The four whole frames are worked out by hand from the tables of the standards.
 use Rattle.std.specs.Prelude.{ℕ, ◌≡◌, Bool, true, false, List, [], ◌∷◌, ◌++◌, replicate}
 use Rattle.layer3.specs.declared.Frame.{Frame}
-use Rattle.layer3.specs.declared.Header.TheVariants.{Valid, Invalid}
+use Rattle.std.specs.Prelude.{None, Some}
 use Rattle.layer3.specs.Header.{header_of}
 use Rattle.layer3.specs.Bits.{read_bits, write_bits}
 use Rattle.layer3.specs.Fields.{left, right, fields_from}
@@ -41,34 +41,34 @@ mono2 = (0xFF ∷ 0xF3 ∷ 0x14 ∷ 0xC0 ∷ []) ++ replicate 3 0 ++ (0x01 ∷ 0
 -- each field is an example
 pub record Figures : Type 0 where
   -- the four frames: what their headers say, where their gains stand, and which they are
-  pub joint1-is : header_of 0xFF 0xFB 0x90 0x64 ≡ Valid (framed 417 true false false)
+  pub joint1-is : header_of 0xFF 0xFB 0x90 0x64 ≡ Some (framed 417 true false false)
   pub joint1-fields : fields_in joint1 ≡ left 73 ∷ right 132 ∷ left 191 ∷ right 250 ∷ []
   pub joint1-left : left_gains joint1 ≡ 170 ∷ 195 ∷ []
   pub joint1-right : right_gains joint1 ≡ 85 ∷ 60 ∷ []
   pub joint1-moved : with_gains joint1 (255 ∷ 0 ∷ []) (1 ∷ 254 ∷ []) ≡ joint1-written
-  pub mono1-is : header_of 0xFF 0xFB 0x54 0xC4 ≡ Valid (framed 192 true true false)
+  pub mono1-is : header_of 0xFF 0xFB 0x54 0xC4 ≡ Some (framed 192 true true false)
   pub mono1-fields : fields_in mono1 ≡ left 71 ∷ left 130 ∷ []
   pub mono1-left : left_gains mono1 ≡ 129 ∷ 200 ∷ []
   pub mono1-right : right_gains mono1 ≡ []
-  pub joint2-is : header_of 0xFF 0xF3 0x82 0x44 ≡ Valid (framed 209 false false false)
+  pub joint2-is : header_of 0xFF 0xF3 0x82 0x44 ≡ Some (framed 209 false false false)
   pub joint2-fields : fields_in joint2 ≡ left 63 ∷ right 126 ∷ []
   pub joint2-left : left_gains joint2 ≡ 100 ∷ []
   pub joint2-right : right_gains joint2 ≡ 99 ∷ []
-  pub mono2-is : header_of 0xFF 0xF3 0x14 0xC0 ≡ Valid (framed 24 false true false)
+  pub mono2-is : header_of 0xFF 0xF3 0x14 0xC0 ≡ Some (framed 24 false true false)
   pub mono2-fields : fields_in mono2 ≡ left 62 ∷ []
   pub mono2-left : left_gains mono2 ≡ 80 ∷ []
   pub mono2-right : right_gains mono2 ≡ []
   -- the longest frame, and one with a checksum, whose fields stand two bytes later
-  pub longest : header_of 0xFF 0xFB 0xEA 0 ≡ Valid (framed 1441 true false false)
-  pub checked : header_of 0xFF 0xFA 0x90 0x64 ≡ Valid (framed 417 true false true)
+  pub longest : header_of 0xFF 0xFB 0xEA 0 ≡ Some (framed 1441 true false false)
+  pub checked : header_of 0xFF 0xFA 0x90 0x64 ≡ Some (framed 417 true false true)
   pub checked-fields : fields_from 800 (framed 24 false true true) ≡ left 878 ∷ []
   -- eleven sync bits (MPEG 2.5), Layer II, free format, reserved bit rate, sampling rate, emphasis
-  pub eleven : header_of 0xFF 0xE3 0x90 0x64 ≡ Invalid
-  pub layer2 : header_of 0xFF 0xFD 0x90 0x64 ≡ Invalid
-  pub free : header_of 0xFF 0xFB 0 0x64 ≡ Invalid
-  pub rate : header_of 0xFF 0xFB 0xF0 0x64 ≡ Invalid
-  pub sampling : header_of 0xFF 0xFB 0x9C 0x64 ≡ Invalid
-  pub emphasis : header_of 0xFF 0xFB 0x90 0x66 ≡ Invalid
+  pub eleven : header_of 0xFF 0xE3 0x90 0x64 ≡ None
+  pub layer2 : header_of 0xFF 0xFD 0x90 0x64 ≡ None
+  pub free : header_of 0xFF 0xFB 0 0x64 ≡ None
+  pub rate : header_of 0xFF 0xFB 0xF0 0x64 ≡ None
+  pub sampling : header_of 0xFF 0xFB 0x9C 0x64 ≡ None
+  pub emphasis : header_of 0xFF 0xFB 0x90 0x66 ≡ None
   -- bits of two bytes: 0x01 0x44 from bit 6 on holds 81; the bits beside a field stay
   pub bits : read_bits (0x01 ∷ 0x44 ∷ []) 6 ≡ 81
   pub written : write_bits (0xFD ∷ 0x03 ∷ []) 6 80 ≡ 0xFD ∷ 0x43 ∷ []

@@ -2,8 +2,7 @@
 use Rattle.std.specs.Prelude.{ℕ, ◌+◌, ◌*◌, ◌/◌, ◌%◌, Bool, true, false, not, ◌&&◌, cond, [], ◌∷◌, get_or, eqb}
 use Rattle.lists.specs.Bytes.{among}
 use Rattle.layer3.specs.declared.Frame.{Frame}
-use Rattle.layer3.specs.declared.Header.{Header}
-use Rattle.layer3.specs.declared.Header.TheVariants.{Valid, Invalid}
+use Rattle.std.specs.Prelude.{Option, None, Some}
 
 -- ---- the fields of a header
 
@@ -74,5 +73,5 @@ abbrev pub frame_of : ℕ → ℕ → ℕ → Frame
 frame_of b c d = record { size = frame_size (is_mpeg1 b) c; mpeg1 = is_mpeg1 b; mono = is_mono d; checksum = has_checksum b }
 
 -- a valid header, or none
-unfoldable pub header_of : ℕ → ℕ → ℕ → ℕ → Header
-header_of a b c d = cond (is_valid a b c d) (Valid (frame_of b c d)) Invalid
+unfoldable pub header_of : ℕ → ℕ → ℕ → ℕ → Option Frame
+header_of a b c d = cond (is_valid a b c d) (Some (frame_of b c d)) None

@@ -1,9 +1,9 @@
 -- The frames of an MP3 (document 02, request 5): audio is a file up to its audio end.
 use Rattle.std.specs.Prelude.{ℕ, zero, suc, ◌+◌, ◌*◌, ◌/◌, ◌%◌, Bool, true, false, ◌||◌, cond, List, [], ◌∷◌, ◌++◌, length, get_or, leb, eqb}
 use Rattle.lists.specs.Bytes.{ascii, starts_with}
+use Rattle.lists.specs.Choice.{found, provided}
 use Rattle.layer3.specs.declared.Frame.{Frame}
-use Rattle.layer3.specs.declared.Header.{Header}
-use Rattle.layer3.specs.declared.Header.TheVariants.{Valid, Invalid}
+use Rattle.std.specs.Prelude.{Option}
 use Rattle.layer3.specs.Header.{header_of}
 use Rattle.layer3.specs.Fields.{Field, fields_from, read_left, read_right, write_fields}
 
@@ -23,18 +23,13 @@ walk_start s = cond (starts_with (ascii "ID3") s) (10 + id3_size s + id3_footer 
 
 -- ---- the walk
 
--- a header taken apart
-abbrev pub if_valid : {A : Type 0} → Header → A → (Frame → A) → A
-if_valid Invalid a g = a
-if_valid (Valid h) a g = g h
-
 -- the header at a place; a byte past the end counts as 0
-abbrev pub header_at : List ℕ → ℕ → Header
+abbrev pub header_at : List ℕ → ℕ → Option Frame
 header_at s at = header_of (get_or s at 0) (get_or s (at + 1) 0) (get_or s (at + 2) 0) (get_or s (at + 3) 0)
 
 -- a frame counts if it ends by the audio end
-unfoldable pub frame_at : List ℕ → ℕ → Header
-frame_at s at = if_valid (header_at s at) Invalid (λ h. cond (leb (at + h.size) (length s)) (Valid h) Invalid)
+unfoldable pub frame_at : List ℕ → ℕ → Option Frame
+frame_at s at = provided (λ h. leb (at + h.size) (length s)) (header_at s at)
 
 -- a frame: where it starts, and its shape
 pub record Placed : Type 0 where
@@ -44,7 +39,7 @@ pub record Placed : Type 0 where
 -- at most n steps from a place: over a frame, or past one byte that begins none
 unfoldable pub walk : ℕ → List ℕ → ℕ → List Placed
 walk zero s at = []
-walk (suc n) s at = if_valid (frame_at s at) (walk n s (at + 1)) (λ h. record { at = at; frame = h } ∷ walk n s (at + h.size))
+walk (suc n) s at = found (frame_at s at) (walk n s (at + 1)) (λ h. record { at = at; frame = h } ∷ walk n s (at + h.size))
 
 -- all frames: no walk takes more steps than there are bytes
 unfoldable pub frames_in : List ℕ → List Placed

@@ -3,7 +3,7 @@ use Prim.Native.Nat.{ℕ, ◌+◌, ◌-◌, ◌≤◌, ◌<◌}
 use native.Mathlib.Omega.{arith}
 use mathlib.Core.Path.{◌≡◌, refl, sym, ap, ◌∙◌}
 use mathlib.Core.Bool.{Bool, true, false, ◌&&◌}
-use mathlib.Core.Option.{Option, none, some}
+use Rattle.std.specs.Prelude.{Option, None, Some}
 use mathlib.Core.List.{List, [], ◌∷◌}
 use lib.ListN.{length, length-append}
 use lib.Seq.{length-take-le}
@@ -29,6 +29,7 @@ use Rattle.items.proofs.Area.{count-items}
 use Rattle.items.proofs.ItemLaws.{count-without, area-without}
 use Rattle.calls.specs.Gate.{items_of}
 use Rattle.calls.specs.Calls.{is_there, others}
+use Rattle.gate.specs.declared.TagArea.{TagArea}
 use Rattle.gate.specs.Gate.{Passed}
 use Rattle.gate.proofs.Gates.{short-items}
 use Rattle.calls.specs.Lengths.{unlimited, size_plan, file_length, undo_length}
@@ -54,8 +55,8 @@ sized-cut {s} {front} {from} {to} c bytes count =
 
 -- a result planned by a test, and then measured
 measured : {A : Type 0} (size : A → ℕ) (o : Option Refusal) (x : A) → size_plan size (planned o x) ≡ planned o (size x)
-measured size none x = refl
-measured size (some r) x = refl
+measured size None x = refl
+measured size (Some r) x = refl
 
 same-twice : (b : Bool) → (b && b) ≡ b
 same-twice true = refl
@@ -95,12 +96,12 @@ module _ (file : List ℕ) (bytes count : ℕ) where
       fits h = rw (le-leb _ _ few, le-leb _ _ small, le-leb _ _ h)
 
 -- the last test of undo: what is left of items that fit, fits
-module _ (file left right : List ℕ) {start end count : ℕ} (p : Passed file start end count) where
+module _ (file left right : List ℕ) {p : TagArea} (x : Passed file p) where
   few : length (without is_mp3gain_key (items_of file)) ≤ count_limit
-  few = omega (arith, ap length p.items, count-items count (part start end file) p.good, p.few, count-without is_mp3gain_key (items_of file))
+  few = omega (arith, ap length x.items, count-items p.count (part p.start p.end file) x.good, x.few, count-without is_mp3gain_key (items_of file))
 
   small : length (area_bytes (without is_mp3gain_key (items_of file))) ≤ area_limit
-  small = omega (arith, short-items p, area-without is_mp3gain_key (items_of file))
+  small = omega (arith, short-items x, area-without is_mp3gain_key (items_of file))
 
   pub undo-is : {text : List ℕ} → undo_check file (is_there left) ≡ yes text
       → undo_length file left right ≡ last_length file (length (area_bytes (without is_mp3gain_key (items_of file)))) (length (without is_mp3gain_key (items_of file)))

@@ -1,17 +1,17 @@
 -- The length of a new file by numbers alone.
+use Rattle.std.specs.Prelude.{Result, Ok, Err}
 use Rattle.std.specs.Prelude.{ℕ, ◌+◌, ◌&&◌, List, [], ◌∷◌, length, leb}
 use Rattle.replies.specs.Limits.{file_limit, count_limit, area_limit}
 use Rattle.replies.specs.Refusal.{need, refusal_of, Plan, no, yes, planned}
+use Rattle.replies.specs.declared.Refusal.{Refusal}
 use Rattle.replies.specs.declared.Refusal.TheVariants.{NoRoom, TagTooLarge}
 use Rattle.ape.specs.Tag.{split}
 use Rattle.ape_write.specs.Answers.{tag_length}
-use Rattle.lengths.specs.declared.NewLength.{NewLength}
-use Rattle.lengths.specs.declared.NewLength.TheVariants.{Bytes, Refused}
 
 -- the length, or the refusal
-abbrev pub length_answer : Plan ℕ → NewLength
-length_answer (no r) = Refused r
-length_answer (yes n) = Bytes n
+abbrev pub length_answer : Plan ℕ → Result ℕ Refusal
+length_answer (no r) = Err r
+length_answer (yes n) = Ok n
 
 -- how long a file is with so many items of so many bytes in place of its own
 unfoldable pub sized : List ℕ → ℕ → ℕ → ℕ

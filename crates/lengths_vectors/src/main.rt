@@ -2,21 +2,16 @@
 #![tactic(auto)]
 
 use frame::{GainMode, GainSteps};
-use lengths::NewLength;
+use gains::Moving;
+use replies::Refusal;
 use std::io;
-use vectors::Replay;
 
 // Whether an answer is that of the two words from this place: `0` and the length, or the number of a refusal and `0`.
-fn answered(text: &[u8], at: usize, n: NewLength) -> bool {
+fn answered(text: &[u8], at: usize, n: Result<usize, Refusal>) -> bool {
     let reply = words::unsigned(text, at);
     match n {
-        NewLength::Bytes(m) => {
-            if reply != 0 {
-                return false;
-            }
-            words::unsigned(text, words::next_word(text, at)) == m as u64
-        }
-        NewLength::Refused(r) => reply == replies::number(r) as u64,
+        Ok(m) => reply == 0 && words::unsigned(text, words::next_word(text, at)) == m as u64,
+        Err(r) => reply == u64::from(replies::number(r)),
     }
 }
 
@@ -30,7 +25,7 @@ fn set(text: &[u8], at: usize) -> bool {
     let value_at = words::next_word(text, key_at);
     let mut value = [0u8; 256];
     let v = words::hex_bytes(text, value_at, &mut value);
-    let a = lengths::set_length(&file[0..n], &key[0..k], &value[0..v]);
+    let a = lengths::set_length(&file[..n], &key[..k], &value[..v]);
     answered(text, words::next_word(text, value_at), a)
 }
 
@@ -41,7 +36,7 @@ fn remove(text: &[u8], at: usize) -> bool {
     let key_at = words::next_word(text, at);
     let mut key = [0u8; 256];
     let k = words::hex_bytes(text, key_at, &mut key);
-    let a = lengths::remove_length(&file[0..n], &key[0..k]);
+    let a = lengths::remove_length(&file[..n], &key[..k]);
     answered(text, words::next_word(text, key_at), a)
 }
 
@@ -55,7 +50,7 @@ fn undo(text: &[u8], at: usize) -> bool {
     let right_at = words::next_word(text, left_at);
     let mut right = [0u8; 64];
     let r = words::hex_bytes(text, right_at, &mut right);
-    let a = lengths::undo_length(&file[0..n], &left[0..l], &right[0..r]);
+    let a = lengths::undo_length(&file[..n], &left[..l], &right[..r]);
     answered(text, words::next_word(text, right_at), a)
 }
 
@@ -72,14 +67,12 @@ fn level(text: &[u8], at: usize) -> bool {
     let steps_at = words::next_word(text, right_at);
     let right_steps_at = words::next_word(text, steps_at);
     let flag_at = words::next_word(text, right_steps_at);
-    let a = level_lengths::level_length(
-        &file[0..n],
-        &left[0..l],
-        &right[0..r],
-        GainSteps(words::signed(text, steps_at)),
-        GainSteps(words::signed(text, right_steps_at)),
-        GainMode::from_wrap(lists::starts_with(text, flag_at, b"W")),
-    );
+    let moves = Moving {
+        left: GainSteps(words::signed(text, steps_at)),
+        right: GainSteps(words::signed(text, right_steps_at)),
+        mode: GainMode::from_wrap(lists::starts_with(text, flag_at, b"W")),
+    };
+    let a = level_lengths::level_length(&file[..n], &left[..l], &right[..r], moves);
     answered(text, words::next_word(text, flag_at), a)
 }
 
@@ -96,7 +89,7 @@ fn by_slip(text: &[u8], at: usize) -> bool {
     let right_at = words::next_word(text, left_at);
     let mut right = [0u8; 64];
     let r = words::hex_bytes(text, right_at, &mut right);
-    let a = level_lengths::slip_length(&slip[0..m], &file[0..n], &left[0..l], &right[0..r]);
+    let a = level_lengths::slip_length(&slip[..m], &file[..n], &left[..l], &right[..r]);
     answered(text, words::next_word(text, right_at), a)
 }
 
@@ -104,33 +97,22 @@ fn by_slip(text: &[u8], at: usize) -> bool {
 fn agrees(text: &[u8], at: usize) -> bool {
     let from = words::next_word(text, at);
     if lists::starts_with(text, at, b"set ") {
-        return set(text, from);
+        set(text, from)
+    } else if lists::starts_with(text, at, b"remove ") {
+        remove(text, from)
+    } else if lists::starts_with(text, at, b"undo ") {
+        undo(text, from)
+    } else if lists::starts_with(text, at, b"level ") {
+        level(text, from)
+    } else if lists::starts_with(text, at, b"by_slip ") {
+        by_slip(text, from)
+    } else {
+        false
     }
-    if lists::starts_with(text, at, b"remove ") {
-        return remove(text, from);
-    }
-    if lists::starts_with(text, at, b"undo ") {
-        return undo(text, from);
-    }
-    if lists::starts_with(text, at, b"level ") {
-        return level(text, from);
-    }
-    if lists::starts_with(text, at, b"by_slip ") {
-        return by_slip(text, from);
-    }
-    false
-}
-
-fn replay(text: &[u8]) -> Replay {
-    let mut r = vectors::start(text);
-    while r.at < text.len() {
-        r = vectors::counted(text, r, agrees(text, r.at));
-    }
-    r
 }
 
 fn main(rt: HostRuntime) -> io::Result<()> {
     let mut text = vectors::buffer();
     let n = input::read_full(&rt, &mut text)?;
-    vectors::report(&rt, b"lengths", replay(&text[..n]))
+    vectors::report(&rt, b"lengths", vectors::replay_all(&text[..n], agrees))
 }

@@ -3,12 +3,11 @@ use Prim.Native.Nat.{ℕ, ◌+◌}
 use native.Mathlib.Omega.{arith}
 use mathlib.Core.Path.{◌≡◌, refl}
 use mathlib.Core.Bool.{Bool, true, false, not}
-use mathlib.Core.Option.{Option, none, some}
+use Rattle.std.specs.Prelude.{Option, None, Some, option_map, is_none}
 use mathlib.Core.List.{List, [], ◌∷◌}
 use lib.IntN.{ℤ}
 use Rattle.lists.specs.Choice.{is_some}
-use Rattle.decimal.specs.Writing.{shifted_is}
-use Rattle.decimal.specs.declared.Shifted.{Shifted}
+use Rattle.decimal.specs.Writing.{text_of}
 use Rattle.items.specs.Items.{Item, text_item}
 use Rattle.calls.specs.Calls.{count_items, keeps_peak}
 
@@ -30,7 +29,7 @@ pub kept_any : (z : ℤ) (t : Item) → keeps_peak z (text_item t.key t.value) �
 unfolding keeps_peak
 kept_any z t = refl
 
--- whether a text was moved
-pub moved-some : (o : Option (List ℕ)) (x : Shifted) → x ≡ shifted_is o → not x.moved ≡ not (is_some o)
-moved-some none x e = rw e
-moved-some (some w) x e = rw e
+-- a text that no shift gives is kept
+pub unmoved : (o : Option (List ℕ)) → is_none (option_map text_of o) ≡ not (is_some o)
+unmoved None = refl
+unmoved (Some w) = refl

@@ -7,11 +7,11 @@ use Rattle.values.specs.declared.Range.{Range}
 use Rattle.values.specs.Undo.{format_undo}
 use Rattle.values.specs.Range.{format_range}
 use Rattle.items.specs.Items.{Item, area_bytes, set_item}
-use Rattle.area_edit.specs.declared.Measure.{Measure}
+use Rattle.items.specs.declared.Size.{Size}
 use Rattle.calls.specs.Calls.{Level, wraps, shifted_items}
 
 -- an edit that makes these items answers their number and size, and writes them to the front of its output
-abbrev pub Wrote : List Item → List ℕ → Measure → List ℕ → Type 0
+abbrev pub Wrote : List Item → List ℕ → Size → List ℕ → Type 0
 Wrote ts out r after = (r.count ≡ length ts) × (r.length ≡ length (area_bytes ts)) × (after ≡ over (area_bytes ts) out)
 
 -- stored values moved or dropped, then these undo numbers set

@@ -9,14 +9,14 @@ ghost use Rattle.keys.specs.Keys.{undo_key, minmax_key};
 ghost use Rattle.values.specs.Undo.{format_undo};
 ghost use Rattle.values.specs.Range.{format_range};
 ghost use Rattle.items.specs.Items.{area_bytes, parse, items_in, text_item, set_item};
-ghost use Rattle.calls.specs.Calls.{Level, wraps as wraps_by, shifted_items, is_peak_key, count_items, keeps_peak, peaks_kept};
+ghost use Rattle.calls.specs.Calls.{wraps as wraps_by, shifted_items, is_peak_key, count_items, keeps_peak, peaks_kept};
+ghost use Rattle.gains.specs.Moves.{level_by};
 ghost use Rattle.level_items.specs.Items.{Wrote, undone_items, ranged_items};
 
-use area_drop::{Drop, Measured};
-use area_edit::Measure;
 use frame::{GainMode, GainSteps};
-use items::Stepped;
-use keys::Which;
+use gains::Moving;
+use items::{Size, Stepped};
+use keys::Key;
 use values::{Range, UndoValues};
 
 // Whether the flag is W.
@@ -30,69 +30,48 @@ fn wraps(mode: GainMode) -> bool
 }
 
 // Writes a well-formed area with this item set to the front of `out`.
-fn put_set(area: &[u8], count: usize, key: &[u8], value: &[u8], out: &mut [u8]) -> Measure
+fn put_set(area: &[u8], count: usize, key: &[u8], value: &[u8], out: &mut [u8]) -> Size
     requires { (is_some (parse count area.now) ≡ true) × (length value.now ≤ file_limit)
         × (length (area_bytes (set_item key.now value.now (items_in count area.now))) ≤ length out.old) }
     ensures { Wrote (set_item key.now value.now (items_in count area.now)) out.old result out.new }
 {
-    let p = items::locate(area, count, key);
-    area_edit::write_set(area, count, key, value, p, out)
+    let place = items::locate(area, count, key).unwrap();
+    area_edit::write_set(area, count, key, value, place, out)
 }
 
 // Writes a well-formed area with the undo item of these numbers to the front of `out`.
-fn put_undo(area: &[u8], count: usize, undo: UndoValues, mode: GainMode, out: &mut [u8]) -> Measure
+fn put_undo(area: &[u8], count: usize, undo: UndoValues, mode: GainMode, out: &mut [u8]) -> Size
     requires { (is_some (parse count area.now) ≡ true)
         × (length (area_bytes (set_item undo_key (format_undo undo.left undo.right (wraps_by mode)) (items_in count area.now))) ≤ length out.old) }
     ensures { Wrote (set_item undo_key (format_undo undo.left undo.right (wraps_by mode)) (items_in count area.now)) out.old result out.new }
 {
     let text = values::format_undo_value(undo.left, undo.right, wraps(mode));
-    let n = text.len;
-    let value = text.bytes;
-    put_set(area, count, &keys::TAG_MP3GAIN_UNDO, &value[0..n], out)
+    put_set(area, count, &keys::TAG_MP3GAIN_UNDO, text.as_slice(), out)
 }
 
 // Writes a well-formed area with this range to the front of `out`.
-fn put_range(area: &[u8], count: usize, range: Range, out: &mut [u8]) -> Measure
+fn put_range(area: &[u8], count: usize, range: Range, out: &mut [u8]) -> Size
     requires { (is_some (parse count area.now) ≡ true)
         × (length (area_bytes (set_item minmax_key (format_range range) (items_in count area.now))) ≤ length out.old) }
     ensures { Wrote (set_item minmax_key (format_range range) (items_in count area.now)) out.old result out.new }
 {
     let text = values::format_minmax(range.least, range.greatest);
-    let n = text.len;
-    let value = text.bytes;
-    put_set(area, count, &keys::TAG_MP3GAIN_MINMAX, &value[0..n], out)
+    put_set(area, count, &keys::TAG_MP3GAIN_MINMAX, text.as_slice(), out)
 }
 
 // Writes what level leaves of the stored values of a well-formed area to the front of `out`: moved where the steps are equal, else without
 // UNDONE_KEYS.
-fn put_moved(
-    area: &[u8],
-    count: usize,
-    left: GainSteps,
-    right: GainSteps,
-    mode: GainMode,
-    out: &mut [u8],
-) -> Measure
+fn put_moved(area: &[u8], count: usize, moves: Moving, out: &mut [u8]) -> Size
     requires { (is_some (parse count area.now) ≡ true)
-        × (length (area_bytes (shifted_items (record { left = left.0; right = right.0; mode = mode }) (items_in count area.now))) ≤ length out.old) }
-    ensures { Wrote (shifted_items (record { left = left.0; right = right.0; mode = mode }) (items_in count area.now)) out.old result out.new }
+        × (length (area_bytes (shifted_items (level_by moves) (items_in count area.now))) ≤ length out.old) }
+    ensures { Wrote (shifted_items (level_by moves) (items_in count area.now)) out.old result out.new }
 {
-    if left.0 == right.0 {
-        return area_shift::write_shifted(area, count, left, mode, out);
+    if moves.left.0 == moves.right.0 {
+        return area_shift::write_shifted(area, count, moves.left, moves.mode, out);
     }
-    let m = area_drop::measure_without(area, count, Drop::Undone, b"");
-    let Measured::Size {
-        count: n,
-        length: _,
-    } = m
-    else {
-        return Measure { count, length: 0 };
-    };
-    let end = area_drop::write_without(area, count, Drop::Undone, b"", out);
-    Measure {
-        count: n,
-        length: end,
-    }
+    let size = area_drop::measure_without(area, count, keys::is_undone).unwrap();
+    area_drop::write_without(area, count, keys::is_undone, out);
+    size
 }
 
 // Writes the items that level leaves of those of a file that is fit for editing to the front of `out`. The moved ones stand there first,
@@ -100,54 +79,37 @@ fn put_moved(
 pub fn write_items(
     area: &[u8],
     count: usize,
-    left: GainSteps,
-    right: GainSteps,
-    mode: GainMode,
+    moves: Moving,
     undo: UndoValues,
     range: Range,
     work: &mut [u8],
     out: &mut [u8],
-) -> Measure
+) -> Size
     requires { (is_some (parse count area.now) ≡ true) × (count ≤ count_limit) × (length area.now ≤ 32768)
         × (length area.now + 32 * count + 76 ≤ length work.old) × (length area.now + 32 * count + 76 ≤ length out.old) }
-    ensures { (let asked : Level = record { left = left.0; right = right.0; mode = mode } in
+    ensures { (let asked = level_by moves in
         (Wrote (ranged_items asked undo range (items_in count area.now)) (over (area_bytes (shifted_items asked (items_in count area.now))) out.old) result out.new)
         × (work.new ≡ over (area_bytes (undone_items asked undo (items_in count area.now))) work.old)) }
 {
-    let moved = put_moved(area, count, left, right, mode, out);
-    let m = moved.length;
-    let undone = put_undo(&out[0..m], moved.count, undo, mode, work);
-    let n = undone.length;
-    put_range(&work[0..n], undone.count, range, out)
+    let moved = put_moved(area, count, moves, out);
+    let undone = put_undo(&out[..moved.length], moved.count, undo, moves.mode, work);
+    put_range(&work[..undone.length], undone.count, range, out)
 }
 
-// The places of the two peak keys in the table of eight.
-const TRACK_PEAK: usize = 4;
-
-const ALBUM_PEAK: usize = 6;
-
 // Whether an item with this key holds a peak.
+#[tactic(auto, unfolding(calls::specs::Calls::is_peak_key))]
 fn is_peak(key: &[u8]) -> bool
     ensures { result ≡ is_peak_key key.now }
 {
-    let Which::Key(i) = keys::which_key(key) else {
-        return false;
-    };
-    if i == TRACK_PEAK {
-        return true;
-    }
-    i == ALBUM_PEAK
+    matches!(keys::known_key(key), Some(Key::TrackPeak | Key::AlbumPeak))
 }
 
 // Whether an item is a peak item that a shift leaves as found.
+#[tactic(auto, using(crate::proofs::Kept::unmoved), unfolding(calls::specs::Calls::keeps_peak))]
 fn keeps_peak(key: &[u8], value: &[u8], steps: GainSteps) -> bool
     ensures { result ≡ keeps_peak steps.0 (text_item key.now value.now) }
 {
-    if !is_peak(key) {
-        return false;
-    }
-    let s = values::shift_stored_value(key, value, steps);
-    !s.moved
+    is_peak(key) && values::shift_stored_value(key, value, steps).is_none()
 }
 
 // How many items of a well-formed area are peak items that a shift leaves as found.
@@ -156,21 +118,18 @@ fn kept_by(area: &[u8], count: usize, steps: GainSteps) -> usize
     ensures { result ≡ count_items (keeps_peak steps.0) (items_in count area.now) }
 {
     let mut at = 0;
-    let mut left = count;
     let mut n = 0;
-    while 0 < left {
-        let s = items::step(area, at);
+    for _ in 0..count {
         let Stepped::Item {
-            flags: _,
             key_start,
             key_end,
             value_start,
             value_end,
-        } = s
+            ..
+        } = items::step(area, at)
         else {
             return n;
         };
-        left -= 1;
         if keeps_peak(
             &area[key_start..key_end],
             &area[value_start..value_end],

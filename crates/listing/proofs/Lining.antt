@@ -26,25 +26,25 @@ pub record Lining (s : List ℕ) (count : ℕ) (out₀ : List ℕ) (at : ℕ) (o
   pub long : length out ≡ length out₀
   pub room : o + 3 * (length s - from) ≤ length out₀
 
-pub line-begin : (s : List ℕ) (count : ℕ) (out : List ℕ) (at : ℕ) → is_some (parse count s) ≡ true → at + 3 * length s ≤ length out → Lining s count out at out 0 count at
-line-begin s count out at e h =
-    record { todo = begin s count e; done = []; same = refl; wrote = start out at (omega arith); long = refl; room = omega arith }
+pub line-begin : (s : List ℕ) (count : ℕ) (out : List ℕ) (at : ℕ) → is_some (parse count s) ≡ true → at + 3 * length s ≤ length out → (left : ℕ) → left ≡ count → Lining s count out at out 0 left at
+line-begin s count out at e h left all =
+    record { todo = rw all (begin s count e); done = []; same = rw all refl; wrote = start out at (omega arith); long = refl; room = omega arith }
 
-module _ {s : List ℕ} {count : ℕ} {out₀ out : List ℕ} {at from left o a b c d : ℕ} (x : Lining s count out₀ at out from left o) (t : Turn s from left a b c d) where
+module _ {s : List ℕ} {count : ℕ} {out₀ out : List ℕ} {at from left m o a b c d : ℕ} (x : Lining s count out₀ at out from left o) (t : Turn s from left m a b c d) where
   -- there is room for one more line
   pub line-room : o + (3 * length (part a b s) + 3 * length (part c d s) + 2) ≤ length out
   line-room = rw (t.key, t.value) (omega (arith, x.room, x.long, t.end, t.rest.within))
 
-  more_same : lines (items_in count s) ≡ (x.done ++ line t.item.key t.item.value) ++ lines (items_in (left - 1) (drop d s))
+  more_same : lines (items_in count s) ≡ (x.done ++ line t.item.key t.item.value) ++ lines (items_in m (drop d s))
   unfolding lines
   more_same =
       x.same
       ∙ ap (λ (ts : List Item). x.done ++ lines ts) t.list
-      ∙ sym (append_assoc x.done (line t.item.key t.item.value) (lines (items_in (left - 1) (drop d s))))
+      ∙ sym (append_assoc x.done (line t.item.key t.item.value) (lines (items_in m (drop d s))))
 
   pub line-more : (o' : ℕ) (out' : List ℕ) → length out' ≡ length out
       → (o' ≡ o + length (line (part a b s) (part c d s))) × (out' ≡ splice out o (line (part a b s) (part c d s)))
-      → Lining s count out₀ at out' d (left - 1) o'
+      → Lining s count out₀ at out' d m o'
   line-more o' out' l h =
       let e = rw (t.key, t.value) at h in
       record {

@@ -1,9 +1,9 @@
 -- The items that are read have keys without a zero byte, so they are read back from their area.
-use Prim.Native.Nat.{ℕ, zero, suc, ◌+◌, ◌-◌, ◌*◌, ◌≤◌, ◌<◌}
+use Prim.Native.Nat.{ℕ, zero, suc, ◌+◌, ◌-◌, ◌*◌, ◌≤◌}
 use native.Mathlib.Omega.{arith}
 use mathlib.Core.Path.{◌≡◌, refl, ap, ◌∙◌}
 use mathlib.Core.Bool.{Bool, true, false, ◌&&◌, cond}
-use mathlib.Core.Option.{Option, none, some}
+use Rattle.std.specs.Prelude.{Option, None, Some}
 use mathlib.Core.List.{List, [], ◌∷◌, ◌++◌}
 use lib.ListN.{length, take, drop, length-take, length-drop}
 use lib.Dec.{eqb, leb}
@@ -16,8 +16,6 @@ use Rattle.lossy.specs.Lossy.{text_of, lossy_from, lossy}
 use Rattle.lossy.proofs.Lists.{small-take}
 use Rattle.items.specs.Items.{Item, Head, head, area_bytes, size_of}
 use Rattle.items.proofs.Area.{AllSane, whole}
-use Rattle.ape.specs.declared.Footer.{Footer}
-use Rattle.ape.specs.declared.Footer.TheVariants.{At, Nowhere}
 use Rattle.ape.specs.Tag.{find_footer, footed, version_at, size_at, count_at, area_at, read_items, read_tag}
 use Rattle.ape.proofs.Reading.{read-long}
 
@@ -62,7 +60,7 @@ lossy-from (suc k) (b ∷ s) (z, zs) = lossy-from k s zs
 lossy-from zero (b ∷ s) (z, zs) =
     both (text_of (step_of (b ∷ s)) (b ∷ s)) (lossy_from (after (size (step_of (b ∷ s)))) s) (lossy-part (step_of (b ∷ s)) (b ∷ s) (z, zs)) (lossy-from (after (size (step_of (b ∷ s)))) s zs)
 
-key-sane : (s : List ℕ) (h : Head) → head s ≡ some h → place_of 0 (lossy h.item.key) ≡ length (lossy h.item.key)
+key-sane : (s : List ℕ) (h : Head) → head s ≡ Some h → place_of 0 (lossy h.item.key) ≡ length (lossy h.item.key)
 unfolding lossy
 key-sane s h e =
     let w = whole s h e in
@@ -75,8 +73,8 @@ read-sane zero s b = tt
 read-sane (suc n) s b = go (head s) refl (λ r. read-sane n r)
   where
     go : (o : Option Head) → head s ≡ o → ((r : List ℕ) → Small r → AllSane (read_items n r)) → AllSane (read_items (suc n) s)
-    go none e ih = rw e tt
-    go (some h) e ih =
+    go None e ih = rw e tt
+    go (Some h) e ih =
         let w = whole s h e in
         let r : Small h.rest = rw w.after (small-drop s (size_of h.item) b) in
         rw e ((key-sane s h e, omega (arith, w.flags-are, b 4, b 5, b 6, b 7)), ih h.rest r)
@@ -94,17 +92,17 @@ module _ (file : List ℕ) (ts : List Item) where
   unfolding area_at
   area_small f b = small-take (size_at file f - 32) (drop (f + 32 - size_at file f) file) (small-drop file (f + 32 - size_at file f) b)
 
-  good : (f : ℕ) (b : Bool) → cond b (some (here f)) none ≡ some ts → (Small file → AllSane ts) × (length (area_bytes ts) ≤ 3 * length file)
+  good : (f : ℕ) (b : Bool) → cond b (Some (here f)) None ≡ Some ts → (Small file → AllSane ts) × (length (area_bytes ts) ≤ 3 * length file)
   good f true q =
       let z : here f ≡ ts = cc in
       (λ b. rw z at (read-sane (count_at file f) (area_at file f) (area_small f b)), omega (arith, ap (λ us. length (area_bytes us)) z, read-long (count_at file f) (area_at file f), area-short f))
   good f false q = absurd (let z : ◌≡◌ {A = ℕ} 0 1 = cc in omega arith)
 
-  pub tag-items : read_tag file ≡ some ts → (Small file → AllSane ts) × (length (area_bytes ts) ≤ 3 * length file)
+  pub tag-items : read_tag file ≡ Some ts → (Small file → AllSane ts) × (length (area_bytes ts) ≤ 3 * length file)
   unfolding read_tag
   tag-items e = go (find_footer file) e
     where
-      go : (x : Footer) → footed x none (λ f. cond (eqb (version_at file f) 2000 && leb (size_at file f) (f + 32)) (some (here f)) none) ≡ some ts
+      go : (x : Option ℕ) → footed x None (λ f. cond (eqb (version_at file f) 2000 && leb (size_at file f) (f + 32)) (Some (here f)) None) ≡ Some ts
           → (Small file → AllSane ts) × (length (area_bytes ts) ≤ 3 * length file)
-      go Nowhere q = absurd (let z : ◌≡◌ {A = ℕ} 0 1 = cc in omega arith)
-      go (At f) q = good f (eqb (version_at file f) 2000 && leb (size_at file f) (f + 32)) q
+      go None q = absurd (let z : ◌≡◌ {A = ℕ} 0 1 = cc in omega arith)
+      go (Some f) q = good f (eqb (version_at file f) 2000 && leb (size_at file f) (f + 32)) q

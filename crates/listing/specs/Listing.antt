@@ -1,6 +1,6 @@
 -- The text that lists the tag of a file (document 01, "Slip and listing").
 use Rattle.std.specs.Prelude.{ℕ, ◌+◌, ◌/◌, ◌%◌, Bool, true, false, not, ◌&&◌, cond, List, [], ◌∷◌, ◌++◌, length, ltb, leb, eqb}
-use Rattle.std.proofs.Math.Option.{Option, none, some}
+use Rattle.std.specs.Prelude.{Option, None, Some}
 use Rattle.replies.specs.Limits.{listing_limit}
 use Rattle.lists.specs.Bytes.{ascii}
 use Rattle.decimal.specs.Writing.{decimal}
@@ -39,8 +39,8 @@ lines (t ∷ ts) = line t.key t.value ++ lines ts
 
 -- the number of items that were read, and their lines
 unfoldable pub listed : Option (List Item) → List ℕ
-listed none = ascii "items=none" ++ (0x0A ∷ [])
-listed (some ts) = ((ascii "items=" ++ decimal 1 9 (length ts)) ++ (0x0A ∷ [])) ++ lines ts
+listed None = ascii "items=none" ++ (0x0A ∷ [])
+listed (Some ts) = ((ascii "items=" ++ decimal 1 9 (length ts)) ++ (0x0A ∷ [])) ++ lines ts
 
 -- the text of a file
 unfoldable pub listing : List ℕ → List ℕ

@@ -2,7 +2,7 @@
 #![tactic(auto)]
 
 ghost use Rattle.std.specs.Prelude.{◌≡◌, true, false, ◌≤◌, ◌<◌, ◌+◌, ◌*◌, ◌/◌, ◌%◌, length};
-ghost use Rattle.std.proofs.Math.Option.{some};
+ghost use Rattle.std.specs.Prelude.{Some};
 ghost use Rattle.lists.specs.Choice.{is_some};
 ghost use Rattle.lists.specs.Write.{over, splice};
 ghost use Rattle.items.specs.Items.{parse, items_in};
@@ -10,7 +10,6 @@ ghost use Rattle.ape.specs.Tag.{read_tag};
 ghost use Rattle.ape.specs.Answers.{read_area};
 ghost use Rattle.listing.specs.Listing as L;
 
-use ape::{Footer, TagRead};
 use items::Stepped;
 
 fn hex_digit(d: u8) -> u8
@@ -27,19 +26,7 @@ fn hex_digit(d: u8) -> u8
 fn is_plain(key: bool, b: u8) -> bool
     ensures { result ≡ L.is_plain key b }
 {
-    if b < 0x20 {
-        return false;
-    }
-    if 0x7E < b {
-        return false;
-    }
-    if b == b'\\' {
-        return false;
-    }
-    if key {
-        return b != b'=';
-    }
-    true
+    (0x20..=0x7E).contains(&b) && b != b'\\' && !(key && b == b'=')
 }
 
 // Writes a byte as it prints.
@@ -61,13 +48,11 @@ fn put_text(out: &mut [u8], at: usize, key: bool, s: &[u8]) -> usize
     ensures { (result ≡ at + length (L.printed_all key s.now))
         × (out.new ≡ splice out.old at (L.printed_all key s.now)) }
 {
-    let mut i = 0;
-    let mut o = at;
-    while i < s.len() {
-        o = put_byte(out, o, key, s[i]);
-        i += 1;
+    let mut end = at;
+    for &b in s {
+        end = put_byte(out, end, key, b);
     }
-    o
+    end
 }
 
 // Writes the line of an item.
@@ -89,37 +74,34 @@ fn put_lines(out: &mut [u8], at: usize, area: &[u8], count: usize) -> usize
         × (out.new ≡ splice out.old at (L.lines (items_in count area.now))) }
 {
     let mut from = 0;
-    let mut left = count;
-    let mut o = at;
-    while 0 < left {
-        let s = reader::item_at(area, from);
+    let mut end = at;
+    for _ in 0..count {
         let Stepped::Item {
-            flags: _,
             key_start,
             key_end,
             value_start,
             value_end,
-        } = s
+            ..
+        } = reader::item_at(area, from)
         else {
-            return o;
+            return end;
         };
-        o = put_line(
+        end = put_line(
             out,
-            o,
+            end,
             &area[key_start..key_end],
             &area[value_start..value_end],
         );
         from = value_end;
-        left -= 1;
     }
-    o
+    end
 }
 
 // Writes the number of items and their lines.
 fn put_listed(out: &mut [u8], area: &[u8], count: usize) -> usize
     requires { (is_some (parse count area.now) ≡ true) × (count < 1000000000) × (17 + 3 * length area.now ≤ length out.old) }
-    ensures { (result ≡ length (L.listed (some (items_in count area.now))))
-        × (out.new ≡ over (L.listed (some (items_in count area.now))) out.old) }
+    ensures { (result ≡ length (L.listed (Some (items_in count area.now))))
+        × (out.new ≡ over (L.listed (Some (items_in count area.now))) out.old) }
 {
     let a = lists::put(out, 0, b"items=");
     let b = decimal::put_decimal(out, a, count as u32, 1, 10, 10);
@@ -127,26 +109,17 @@ fn put_listed(out: &mut [u8], area: &[u8], count: usize) -> usize
     put_lines(out, c, area, count)
 }
 
-// Room for the items of any file that is listed: three times its bytes.
-fn scratch() -> [u8; 49152]
-    ensures { 49152 ≡ length result }
-{
-    [0u8; 49152]
-}
+// How many bytes the items of any file that is listed may have: three times its own.
+const ROOM: usize = 49152;
 
-// Room for the items of a short tag: it costs less to clear.
-fn small_scratch() -> [u8; 3072]
-    ensures { 3072 ≡ length result }
-{
-    [0u8; 3072]
-}
+// The same for a short tag: room of this size costs less to clear.
+const SMALL_ROOM: usize = 3072;
 
 // Whether the small room surely holds the items of a file's tag: three times their bytes. The footer's size counts 32 bytes of its own.
 fn is_short(file: &[u8]) -> bool
     ensures { result ≡ true → length (read_area (read_tag file.now)) ≤ 3072 }
 {
-    let found = ape::find_footer(file);
-    let Footer::At(footer) = found else {
+    let Some(footer) = ape::find_footer(file) else {
         return true;
     };
     frame::read_u32_le(file, footer + 12) <= 1056
@@ -157,11 +130,10 @@ fn list_in(file: &[u8], area: &mut [u8], text: &mut [u8; 147473]) -> usize
     requires { (length file.now ≤ 16384) × (length (read_area (read_tag file.now)) ≤ length area.old) }
     ensures { (result ≡ length (L.listing file.now)) × (text.new ≡ over (L.listing file.now) text.old) }
 {
-    let t = ape::read_ape_tag(file, area);
-    match t {
-        TagRead::Items { count, length } => put_listed(text, &area[0..length], count),
-        TagRead::NoTag => lists::put(text, 0, b"items=none\n"),
-        TagRead::Refused(_) => lists::put(text, 0, b"items=none\n"),
+    match ape::read_ape_tag(file, area) {
+        Ok(Some(size)) => put_listed(text, &area[..size.length], size.count),
+        Ok(None) => lists::put(text, 0, b"items=none\n"),
+        Err(_) => lists::put(text, 0, b"items=none\n"),
     }
 }
 
@@ -174,9 +146,9 @@ pub fn list_tag(file: &[u8], text: &mut [u8; 147473]) -> usize
         return lists::put(text, 0, b"refused=1\n");
     }
     if is_short(file) {
-        let mut area = small_scratch();
+        let mut area = [0u8; SMALL_ROOM];
         return list_in(file, &mut area, text);
     }
-    let mut area = scratch();
+    let mut area = [0u8; ROOM];
     list_in(file, &mut area, text)
 }

@@ -7,10 +7,17 @@ use mathlib.Core.Bool.{Bool, true, false, not, ◌&&◌, ◌||◌, and_assoc, an
 use mathlib.Core.List.{List, [], ◌∷◌}
 use lib.ListN.{length, get_or, take, drop, length-drop, drop_of_length-le}
 use lib.Seq.{take-length, get_or-drop, drop-cons, drop-drop}
+use Rattle.std.specs.List.{list_all}
 use Rattle.lists.specs.Bytes.{all}
 use Rattle.lists.proofs.Same.{and-false}
 
 module _ (p : ℕ → Bool) where
+  -- as std has it
+  pub all-is : (s : List ℕ) → list_all p s ≡ all p s
+  unfolding all
+  all-is [] = refl
+  all-is (x ∷ s) = ap (λ t. p x && t) (all-is s)
+
   -- what is from i on: i, and what is behind it
   all-step : (s : List ℕ) (i : ℕ) → i < length s → all p (drop i s) ≡ (p (get_or s i 0) && all p (drop (i + 1) s))
   unfolding all

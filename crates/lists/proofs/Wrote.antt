@@ -5,8 +5,7 @@ use Prim.Native.Nat.{ℕ, ◌+◌, ◌-◌, ◌≤◌}
 use native.Mathlib.Nat.{add_assoc, zero-add, add-zero}
 use native.Mathlib.Omega.{arith}
 use lib.ListN.{length, take, drop, length-append, length-drop, take-append-drop, drop_of_length-le}
-use lib.Seq.{take-add, take_at, take_all, take-append-le, take-append-add, take-take, take-length, drop_at, drop-drop, drop-append-add, length-take-le}
-use Rattle.lists.proofs.Places.{length_part}
+use lib.Seq.{take-add, take_at, take_all, take-append-le, take-take, drop_at, drop-drop, drop-append-add, length-take-le}
 use Rattle.lists.specs.Write.{over, splice, part}
 
 -- xs is out with w written into it from at to k. A record, so that antt finds the lists at each use
@@ -96,29 +95,3 @@ module _ (s : List ℕ) (i j : ℕ) (order : i ≤ j) where
 -- what is as long as what it is written over takes its place
 pub splice_all : (b w : List ℕ) → length b ≡ length w → splice b 0 w ≡ w
 splice_all b w e = rw (zero-add, drop_of_length-le b {i = length w} (omega (arith, e))) (append-nil w)
-
--- p is written by way of b, which is as long as p and takes it first
-pub by_way : (out : List ℕ) (at : ℕ) (b p : List ℕ) {ys zs : List ℕ} {r : ℕ} → length p ≡ length b → ys ≡ splice b 0 p
-    → (r ≡ at + length ys) × (zs ≡ splice out at ys) → (r ≡ at + length p) × (zs ≡ splice out at p)
-by_way out at b p {ys} n e y =
-    let all : ys ≡ p = e ∙ splice_all b p (sym n) in
-    (y.0 ∙ ap (λ (l : List ℕ). at + length l) all, y.1 ∙ ap (splice out at) all)
-
--- s was written up to i, and what stands from an earlier place on is written once more, to the end
-pub again : {out xs ys : List ℕ} {at k : ℕ} (s : List ℕ) (last i : ℕ) → last ≤ i → i ≤ length s → Wrote out at (take i s) k xs
-    → ys ≡ splice xs (at + last) (part last (length s) s) → ys ≡ splice out at s
-again {out} {xs} {ys} {at} {k} s last i l h x y =
-    let n = length s in
-    let new = take at out ++ take i s in
-    let long-at : length (take at out) ≡ at = length-take-le at out x.room in
-    let long-i : length (take i s) ≡ i = length-take-le i s h in
-    let long : length new ≡ at + i = simp length-append (omega (arith, long-at, long-i)) in
-    let front : take (at + last) xs ≡ take at out ++ take last s =
-    ap (take (at + last)) x.is ∙ take-append-le (at + last) new _ (omega (arith, long)) ∙ ap (λ (m : ℕ). take (m + last) new) (sym long-at)
-    ∙ take-append-add (take at out) (take i s) last ∙ ap (λ (w : List ℕ). take at out ++ w) (take-take last i s l) in
-    let end : at + last + length (part last n s) ≡ length new + (n - i) = omega (arith, long, length_part last n s (omega arith)) in
-    let behind : at + length (take i s) + (n - i) ≡ at + n = omega (arith, long-i) in
-    let back : drop (at + last + length (part last n s)) xs ≡ drop (at + n) out =
-    ap (λ (m : ℕ). drop m xs) end ∙ ap (drop (length new + (n - i))) x.is ∙ drop-append-add new _ (n - i) ∙ drop-drop (n - i) (at + length (take i s)) out ∙ ap (λ (m : ℕ). drop m out) behind in
-    let whole : take last s ++ part last n s ≡ s = take_part s last n (omega arith) ∙ take-length s in
-    y ∙ rw (front, back) (ap (λ (w : List ℕ). w ++ drop (at + n) out) (append_assoc (take at out) (take last s) (part last n s) ∙ ap (λ (w : List ℕ). take at out ++ w) whole))

@@ -1,5 +1,5 @@
 -- Bytes as numbers, and texts as lists of bytes.
-use Rattle.std.specs.Prelude.{ℕ, suc, ◌<◌, Bool, true, false, ◌&&◌, cond, List, [], ◌∷◌, get_or, leb, eqb}
+use Rattle.std.specs.Prelude.{ℕ, suc, ◌≡◌, ◌<◌, Bool, true, false, ◌&&◌, cond, List, [], ◌∷◌, get_or, leb, eqb}
 use Prim.Native.Char.{code}
 use Prim.Native.String.{String, [] as []ˢ, ◌∷◌ as ◌∷ˢ◌}
 
@@ -38,3 +38,7 @@ place_of c (x ∷ s) = cond (eqb x c) 0 (suc (place_of c s))
 -- every element is a byte
 abbrev pub Small : List ℕ → Type 0
 Small s = (i : ℕ) → get_or s i 0 < 256
+
+-- what a call at a byte may answer is what the test says of it
+abbrev pub Computes : (ℕ → Bool → Type 0) → (ℕ → Bool) → Type 0
+Computes post p = (x : ℕ) (b : Bool) → x < 256 → post x b → b ≡ p x

@@ -4,16 +4,14 @@ use native.Mathlib.Nat.{zero-add}
 use native.Mathlib.Omega.{arith}
 use mathlib.Core.Path.{◌≡◌, refl, sym, ap, ◌∙◌}
 use mathlib.Core.Bool.{Bool, true, false, cond}
-use mathlib.Core.Option.{none, some}
+use Rattle.std.specs.Prelude.{Option, None, Some, option_map}
 use mathlib.Core.List.{List, [], ◌++◌, append_assoc}
 use lib.Dec.{ltb}
 use borrow.Author.Tests.{lt-ltb, le-ltb, ltb-true, ltb-false}
 use lib.ListN.{length, drop, length-append}
 use Rattle.lossy.specs.Lossy.{mark, lossy}
 use Rattle.lists.specs.Write.{over, splice, part}
-use Rattle.lossy.specs.declared.Converted.{Converted}
-use Rattle.lossy.specs.declared.Converted.TheVariants.{Done, NoRoom}
-use Rattle.lossy.specs.Write.{answer, bytes, within}
+use Rattle.lossy.specs.Write.{bytes, within}
 use Rattle.utf8.specs.Runs.{Ran}
 use Rattle.lists.proofs.Wrote.{Wrote, start, next}
 use Rattle.lossy.proofs.Runs.{lossy-stretch, marked, unmarked}
@@ -72,25 +70,25 @@ module _ {s out₀ out : List ℕ} {o₀ at o : ℕ} (x : State s out₀ o₀ ou
 module _ (out w : List ℕ) where
   -- w was written at the front, where there is room
   pub converted : {xs : List ℕ} {r : ℕ} → length w ≤ length out → (r ≡ 0 + length w) × (xs ≡ splice out 0 w)
-      → (Done r ≡ answer (within (length out) w)) × (xs ≡ over (bytes (within (length out) w)) out)
-  converted h y = rw (le-ltb _ _ h) (ap Done (y.0 ∙ zero-add _), y.1 ∙ rw zero-add)
+      → (Some r ≡ option_map length (within (length out) w)) × (xs ≡ over (bytes (within (length out) w)) out)
+  converted h y = rw (le-ltb _ _ h) (ap Some (y.0 ∙ zero-add _), y.1 ∙ rw zero-add)
 
   -- there is no room, and nothing was written
-  pub refused : length out < length w → (NoRoom ≡ answer (within (length out) w)) × (out ≡ over (bytes (within (length out) w)) out)
+  pub refused : length out < length w → (None ≡ option_map length (within (length out) w)) × (out ≡ over (bytes (within (length out) w)) out)
   refused h = rw (lt-ltb _ _ h) (refl, refl)
 
 -- an answer tells whether there is room
-module _ (w : List ℕ) {x : Converted} where
-  told : (t : Bool) → x ≡ answer (cond t none (some w)) → {n : ℕ} → x ≡ Done n → t ≡ false
-  told true e f = let z : ◌≡◌ {A = ℕ} 0 1 = cc in absurd (omega arith)
+module _ (w : List ℕ) {x : Option ℕ} where
+  told : (t : Bool) → x ≡ option_map length (cond t None (Some w)) → {n : ℕ} → x ≡ Some n → t ≡ false
+  told true e f = cc
   told false e f = refl
 
-  untold : (t : Bool) → x ≡ answer (cond t none (some w)) → x ≡ NoRoom → t ≡ true
+  untold : (t : Bool) → x ≡ option_map length (cond t None (Some w)) → x ≡ None → t ≡ true
   untold true e f = refl
-  untold false e f = let z : ◌≡◌ {A = ℕ} 0 1 = cc in absurd (omega arith)
+  untold false e f = cc
 
-  pub had-room : (room : ℕ) → x ≡ answer (within room w) → {n : ℕ} → x ≡ Done n → length w ≤ room
+  pub had-room : (room : ℕ) → x ≡ option_map length (within room w) → {n : ℕ} → x ≡ Some n → length w ≤ room
   had-room room e f = ltb-false _ _ (told (ltb room (length w)) e f)
 
-  pub had-none : (room : ℕ) → x ≡ answer (within room w) → x ≡ NoRoom → room < length w
+  pub had-none : (room : ℕ) → x ≡ option_map length (within room w) → x ≡ None → room < length w
   had-none room e f = ltb-true _ _ (untold (ltb room (length w)) e f)

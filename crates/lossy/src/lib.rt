@@ -1,23 +1,17 @@
 // A text with U+FFFD in place of each ill-formed part: its size, and the text written.
 #![tactic(auto)]
 
-ghost use Rattle.std.specs.Prelude.{◌≡◌, ◌≤◌, ◌+◌, length};
+ghost use Rattle.std.specs.Prelude.{◌≡◌, ◌≤◌, ◌+◌, length, option_map};
 ghost use Rattle.lists.specs.Write.{over, splice};
 ghost use Rattle.utf8.specs.Utf8.{Classes};
 ghost use Rattle.lossy.specs.Lossy.{lossy};
-ghost use Rattle.lossy.specs.Write.{answer, bytes, within};
+ghost use Rattle.lossy.specs.Write.{bytes, within};
 
-// How many bytes there are, or that there is no room for them.
-#[derive(Clone, Copy)]
-pub enum Converted {
-    Done(usize),
-    NoRoom,
-}
-
-// How many bytes the text has with U+FFFD in place of each ill-formed part, where that is at most `room`. With the table lent.
-pub fn lossy_within(table: &[u8; 256], s: &[u8], room: usize) -> Converted
+// How many bytes the text has with U+FFFD in place of each ill-formed part, where that is at most `room`. With the table lent. No `for`: each turn
+// goes on by the length of what stands there.
+pub fn lossy_within(table: &[u8; 256], s: &[u8], room: usize) -> Option<usize>
     requires { Classes table.now }
-    ensures { result ≡ answer (within room (lossy s.now)) }
+    ensures { result ≡ option_map length (within room (lossy s.now)) }
 {
     let mut at = 0;
     let mut size = 0;
@@ -25,14 +19,14 @@ pub fn lossy_within(table: &[u8; 256], s: &[u8], room: usize) -> Converted
         let r = utf8::run_from(table, s, at);
         let n = r.end - at;
         if room - size < n {
-            return Converted::NoRoom;
+            return None;
         }
         size += n;
         if r.bad == 0 {
-            return Converted::Done(size);
+            return Some(size);
         }
         if room - size < 3 {
-            return Converted::NoRoom;
+            return None;
         }
         size += 3;
         at = r.end + r.bad;
@@ -40,14 +34,15 @@ pub fn lossy_within(table: &[u8; 256], s: &[u8], room: usize) -> Converted
 }
 
 // How many bytes the text has with U+FFFD in place of each ill-formed part, where that is at most `room`.
-pub fn lossy_size(s: &[u8], room: usize) -> Converted
-    ensures { result ≡ answer (within room (lossy s.now)) }
+pub fn lossy_size(s: &[u8], room: usize) -> Option<usize>
+    ensures { result ≡ option_map length (within room (lossy s.now)) }
 {
     let table = utf8::table::CLASS;
     lossy_within(&table, s, room)
 }
 
 // Writes the text, with U+FFFD in place of each ill-formed part, into `out` from `at`, and answers where it ends. With the table lent.
+// What stands before an ill-formed part is mostly short, and so is U+FFFD: both are copied faster byte by byte. No `for`, as above.
 pub fn lossy_put(table: &[u8; 256], out: &mut [u8], at: usize, s: &[u8]) -> usize
     requires { (Classes table.now) × (at + length (lossy s.now) ≤ length out.old) }
     ensures { (result ≡ at + length (lossy s.now)) × (out.new ≡ splice out.old at (lossy s.now)) }
@@ -56,36 +51,31 @@ pub fn lossy_put(table: &[u8; 256], out: &mut [u8], at: usize, s: &[u8]) -> usiz
     let mut o = at;
     loop {
         let r = utf8::run_from(table, s, from);
-        let e = r.end;
-        let bad = r.bad;
-        let p = lists::put_part(out, o, s, from, e);
-        if bad == 0 {
-            return p;
+        if r.bad == 0 {
+            return lists::put_part(out, o, s, from, r.end);
         }
-        o = lists::put(out, p, b"\xEF\xBF\xBD");
-        from = e + bad;
+        let p = lists::put_rising(out, o, &s[from..r.end]);
+        o = lists::put_rising(out, p, b"\xEF\xBF\xBD");
+        from = r.end + r.bad;
     }
 }
 
 // Writes the text, with U+FFFD in place of each ill-formed part, at the front of `out` where there is room; else nothing is written.
 // What is written is at least as long as `s`, at most three times as long, and `s` itself where that is UTF-8.
-pub fn lossy_into(s: &[u8], out: &mut [u8]) -> Converted
+pub fn lossy_into(s: &[u8], out: &mut [u8]) -> Option<usize>
     ensures { let plan = within (length out.old) (lossy s.now) in
-        (result ≡ answer plan) × (out.new ≡ over (bytes plan) out.old) }
+        (result ≡ option_map length plan) × (out.new ≡ over (bytes plan) out.old) }
 {
     if out.len() < s.len() {
-        return Converted::NoRoom;
+        return None;
     }
     let table = utf8::table::CLASS;
     if s.len() <= out.len() / 3 {
-        return Converted::Done(lossy_put(&table, out, 0, s));
+        return Some(lossy_put(&table, out, 0, s));
     }
     if utf8::is_utf8_by(&table, s) {
-        return Converted::Done(lists::put(out, 0, s));
+        return Some(lists::put(out, 0, s));
     }
-    let x = lossy_within(&table, s, out.len());
-    let Converted::Done(_) = x else {
-        return Converted::NoRoom;
-    };
-    Converted::Done(lossy_put(&table, out, 0, s))
+    lossy_within(&table, s, out.len())?;
+    Some(lossy_put(&table, out, 0, s))
 }

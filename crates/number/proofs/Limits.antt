@@ -1,108 +1,79 @@
 -- Laws of numbers kept only up to a limit.
-use Prim.Native.Nat.{ℕ, zero, suc, ◌-◌, ◌≤◌}
+use Prim.Native.Nat.{ℕ, suc, zero, ◌≤◌, ◌<◌}
 use native.Mathlib.Omega.{arith}
-use mathlib.Core.Path.{◌≡◌, refl, sym, ap}
+use mathlib.Core.Path.{◌≡◌, refl, ap}
 use mathlib.Core.Bool.{Bool, true, false, cond}
-use mathlib.Core.Option.{Option, none, some, map}
+use Rattle.std.specs.Prelude.{Option, None, Some, option_map, Result, Ok, Err, OkIff}
+use Rattle.std.specs.Result.{result_ok}
 use mathlib.Core.List.{List}
-use lib.Dec.{leb, leb-suc-suc}
-use lib.IntN.{ℤ, negsuc}
-use borrow.Author.Tests.{leb-true}
+use lib.Dec.{leb}
+use lib.IntN.{ℤ}
+use lib.Signed.{mag}
+use mir.Syntax.{w32}
+use mir.Val.{SFits}
+use borrow.Author.Tests.{ltb-true, leb-true, leb-false, le-ltb, lt-ltb}
 use Rattle.lists.specs.Choice.{provided}
+use Rattle.number.specs.Reading.{is_i32, with_sign, natural, is_minus, unsigned, whole, u8}
 use Rattle.number.specs.Trim.{trim}
-use Rattle.number.specs.Reading.{is_i32, with_sign, natural, is_minus, unsigned, whole, u8, natural_of, i32_of, u8_of}
-use Rattle.number.specs.declared.Natural.TheVariants.{Value, Nothing}
-use Rattle.number.specs.declared.I32Field.TheVariants as i
-use Rattle.number.specs.declared.U8Field.TheVariants as u
 
--- ---- what the code's answer says
-
-pub value-is : (o : Option ℕ) (n : ℕ) → Value n ≡ natural_of o → o ≡ some n
-value-is none n e = cc
-value-is (some m) n e = let q : n ≡ m = cc in ap some (sym q)
-
-pub nothing_is : (o : Option ℕ) → Nothing ≡ natural_of o → o ≡ none
-nothing_is none e = refl
-nothing_is (some m) e = cc
-
-pub i32-value-is : (o : Option ℤ) (z : ℤ) → i.Value z ≡ i32_of o → o ≡ some z
-i32-value-is none z e = cc
-i32-value-is (some y) z e = let q : z ≡ y = cc in ap some (sym q)
-
-pub i32-nothing-is : (o : Option ℤ) → i.Nothing ≡ i32_of o → o ≡ none
-i32-nothing-is none e = refl
-i32-nothing-is (some y) e = cc
-
-pub u8-value-is : (o : Option ℕ) (n : ℕ) → u.Value n ≡ u8_of o → o ≡ some n
-u8-value-is none n e = cc
-u8-value-is (some m) n e = let q : n ≡ m = cc in ap some (sym q)
-
-pub u8-nothing-is : (o : Option ℕ) → u.Nothing ≡ u8_of o → o ≡ none
-u8-nothing-is none e = refl
-u8-nothing-is (some m) e = cc
-
-pub provided-holds : {A : Type 0} (p : A → Bool) (o : Option A) (a : A) → provided p o ≡ some a → p a ≡ true
-provided-holds p none a e = cc
-provided-holds p (some b) a e = go (p b) refl e
+pub provided-holds : {A : Type 0} (p : A → Bool) (o : Option A) (a : A) → provided p o ≡ Some a → p a ≡ true
+provided-holds p None a e = cc
+provided-holds p (Some b) a e = go (p b) refl e
   where
-    go : (t : Bool) → p b ≡ t → cond t (some b) none ≡ some a → p a ≡ true
+    go : (t : Bool) → p b ≡ t → cond t (Some b) None ≡ Some a → p a ≡ true
     go true u e = let h : b ≡ a = cc in rw (← h) u
     go false u e = cc
 
+pub provided-some : {A : Type 0} (p : A → Bool) (o : Option A) (a : A) → provided p o ≡ Some a → o ≡ Some a
+provided-some p None a e = cc
+provided-some p (Some b) a e = go (p b) e
+  where
+    go : (t : Bool) → cond t (Some b) None ≡ Some a → Some b ≡ Some a
+    go true e = e
+    go false e = cc
+
 -- a number read up to a limit is within it
-pub within : (limit n : ℕ) (t : List ℕ) → Value n ≡ natural_of (provided (λ k. leb k limit) (natural t)) → n ≤ limit
-within limit n t e = leb-true n limit (provided-holds (λ k. leb k limit) (natural t) n (value-is (provided (λ k. leb k limit) (natural t)) n e))
+pub within : (limit n : ℕ) (t : List ℕ) → provided (λ k. leb k limit) (natural t) ≡ Some n → n ≤ limit
+within limit n t e = leb-true n limit (provided-holds (λ k. leb k limit) (natural t) n e)
 
--- ---- the limits of 32 bits, by the sign
+-- ---- a number of 32 bits: its size is read up to 2^31, and then it is tested with its sign
 
--- the most that follows the sign
-abbrev pub limit : Bool → ℕ
-limit true = 2147483648
-limit false = 2147483647
+pub i32-value : (s : List ℕ) (n : ℕ) → provided (λ k. leb k 2147483648) (natural (unsigned s)) ≡ Some n
+    → provided is_i32 (whole s) ≡ provided is_i32 (Some (with_sign (is_minus s) n))
+unfolding whole
+i32-value s n e = rw (provided-some (λ k. leb k 2147483648) (natural (unsigned s)) n e)
 
-test : (minus : Bool) (n : ℕ) → is_i32 (with_sign minus n) ≡ leb n (limit minus)
-test true zero = refl
-test true (suc n) = refl
-test false n = leb-suc-suc n 2147483647
+too-large : (minus : Bool) (n : ℕ) → 2147483648 < n → is_i32 (with_sign minus n) ≡ false
+too-large true zero h = absurd (omega arith)
+too-large true (suc n) h = le-ltb n 2147483648 (omega arith)
+too-large false n h = le-ltb n 2147483648 (omega arith)
 
-kept_map : (t : Bool) {A : Type 0} {B : Type 0} (f : A → B) (a : A) → cond t (some (f a)) none ≡ map f (cond t (some a) none)
-kept_map true f a = refl
-kept_map false f a = refl
+past : (minus : Bool) (n : ℕ) (t : Bool) → leb n 2147483648 ≡ t → cond t (Some n) None ≡ None → provided is_i32 (Some (with_sign minus n)) ≡ None
+past minus n true u e = absurd (let z : ◌≡◌ {A = ℕ} 0 1 = cc in omega arith)
+past minus n false u e = rw (too-large minus n (leb-false n 2147483648 u))
 
-kept : (minus : Bool) (o : Option ℕ) → provided is_i32 (map (with_sign minus) o) ≡ map (with_sign minus) (provided (λ k. leb k (limit minus)) o)
-kept minus none = refl
-kept minus (some n) = rw (test minus n) (kept_map (leb n (limit minus)) (with_sign minus) n)
+nothing : (minus : Bool) (o : Option ℕ) → provided (λ k. leb k 2147483648) o ≡ None → provided is_i32 (option_map (with_sign minus) o) ≡ None
+nothing minus None e = refl
+nothing minus (Some n) e = past minus n (leb n 2147483648) refl e
 
--- t is what follows the sign of s
-module _ (minus : Bool) (s t : List ℕ) (m : is_minus s ≡ minus) (e : t ≡ unsigned s) where
-  kept_whole : provided is_i32 (whole s) ≡ map (with_sign minus) (provided (λ k. leb k (limit minus)) (natural t))
-  unfolding whole
-  kept_whole = rw (m, e) (kept minus (natural (unsigned s)))
+pub i32-none : (s : List ℕ) → provided (λ k. leb k 2147483648) (natural (unsigned s)) ≡ None → provided is_i32 (whole s) ≡ None
+unfolding whole
+i32-none s e = nothing (is_minus s) (natural (unsigned s)) e
 
-  pub whole-nothing : Nothing ≡ natural_of (provided (λ k. leb k (limit minus)) (natural t)) → i.Nothing ≡ i32_of (provided is_i32 (whole s))
-  whole-nothing h = rw (kept_whole, nothing_is (provided (λ k. leb k (limit minus)) (natural t)) h)
-
-  pub whole-value : (n : ℕ) → Value n ≡ natural_of (provided (λ k. leb k (limit minus)) (natural t)) → i.Value (with_sign minus n) ≡ i32_of (provided is_i32 (whole s))
-  whole-value n h = rw (kept_whole, value-is (provided (λ k. leb k (limit minus)) (natural t)) n h)
-
--- down by one more than n - 1
-pub below-zero : (n : ℕ) → (n ≡ 0 → ⊥) → negsuc (n - 1) ≡ with_sign true n
-below-zero zero h = absurd (h refl)
-below-zero (suc n) h = ap negsuc (omega arith)
+pub i32-fits : {E : Type 0} (r : Result ℤ E) (z : ℤ) → OkIff r (SFits w32 z) z → result_ok r ≡ provided is_i32 (Some z)
+i32-fits (Ok x) z (f, e) = rw (lt-ltb (mag z) 2147483648 f.sfits) (ap Some e)
+i32-fits (Err x) z n = go (is_i32 z) refl
+  where
+    go : (t : Bool) → is_i32 z ≡ t → None ≡ cond t (Some z) None
+    go true e = absurd (n (record { sfits = ltb-true (mag z) 2147483648 e }))
+    go false e = refl
 
 -- ---- bytes
 
-module _ (s t : List ℕ) (m : is_minus (trim s) ≡ false) (e : t ≡ unsigned (trim s)) where
-  kept-u8 : u8 s ≡ provided (λ k. leb k 255) (natural t)
-  unfolding u8
-  kept-u8 = rw (m, e)
+pub u8-plain : (s : List ℕ) → is_minus (trim s) ≡ false → u8 s ≡ provided (λ k. leb k 255) (natural (unsigned (trim s)))
+unfolding u8
+u8-plain s m = rw m
 
-  pub u8-nothing : Nothing ≡ natural_of (provided (λ k. leb k 255) (natural t)) → u.Nothing ≡ u8_of (u8 s)
-  u8-nothing h = rw (kept-u8, nothing_is (provided (λ k. leb k 255) (natural t)) h)
-
-  pub u8-value : (n : ℕ) → Value n ≡ natural_of (provided (λ k. leb k 255) (natural t)) → u.Value n ≡ u8_of (u8 s)
-  u8-value n h = rw (kept-u8, value-is (provided (λ k. leb k 255) (natural t)) n h)
-
-pub u8-minus : (s : List ℕ) → is_minus (trim s) ≡ true → u.Nothing ≡ u8_of (u8 s)
+pub u8-minus : (s : List ℕ) → is_minus (trim s) ≡ true → u8 s ≡ None
 unfolding u8
 u8-minus s m = rw m

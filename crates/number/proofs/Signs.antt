@@ -22,6 +22,3 @@ total a b z h = parts-eq (a +ℤ b) z (omega (arith, sum-parts a b))
 -- z is a - b, by their parts
 pub differ : (a b z : ℤ) → up z + (down a + up b) ≡ down z + (up a + down b) → a -ℤ b ≡ z
 differ a b z h = parts-eq (a -ℤ b) z (omega (arith, sum-parts a (neg_ℤ b), neg-up b, neg-down b))
-
-pub other_way : (a b : ℤ) → a +ℤ b ≡ b +ℤ a
-other_way a b = total a b (b +ℤ a) (omega (arith, sum-parts b a))

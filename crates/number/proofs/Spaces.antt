@@ -1,41 +1,19 @@
--- Laws of `is_space` and `trim`: a byte by comparisons, and one law for each turn of a loop.
-use Prim.Native.Nat.{ℕ, ◌+◌, ◌≤◌, ◌<◌}
+-- Laws of `trim`: where the text without the spaces at an end begins and ends.
+use Prim.Native.Nat.{ℕ, suc, ◌+◌, ◌-◌, ◌≤◌}
 use native.Mathlib.Omega.{arith}
-use native.Mathlib.Numerals.{add-one}
-use mathlib.Core.Path.{◌≡◌, refl}
-use mathlib.Core.Bool.{true, false}
+use native.Mathlib.Numerals.{one-add}
+use mathlib.Core.Path.{◌≡◌, refl, sym, ap, subst, ◌∙◌}
+use mathlib.Core.Bool.{Bool, true, false, not, cond}
 use mathlib.Core.List.{List, [], ◌∷◌, ◌++◌}
-use lib.ListN.{length, take, drop, get_or, drop_of_length-le}
-use lib.Dec.{eqb}
-use lib.Seq.{drop-cons, take-suc}
-use borrow.Author.Tests.{le-leb, lt-leb, ne_eqb}
+use Rattle.std.specs.Prelude.{Some, None, unwrap_or, position, reverse}
+use Rattle.std.specs.List.{position_or_len}
+use Rattle.std.proofs.lemmas.List.{length-reverse, reverse-append, reverse-reverse, take-append-le, length-append}
+use Rattle.std.proofs.lemmas.List.Sums.{prefix_len-le-length}
+use lib.ListN.{length, take, drop}
+use lib.Dec.{ltb}
+use lib.Seq.{take-length}
+use borrow.Author.Tests.{ltb-false}
 use Rattle.number.specs.Trim.{is_space, trim_left, keep, trim_right}
-
-pub space-low : (x : ℕ) → x < 9 → false ≡ is_space x
-unfolding is_space
-space-low x h = rw (lt-leb 9 x h, ne_eqb x 32 (omega arith))
-
-pub space-in : (x : ℕ) → 9 ≤ x → x ≤ 13 → true ≡ is_space x
-unfolding is_space
-space-in x l h = rw (le-leb 9 x l, le-leb x 13 h)
-
-pub space-high : (x : ℕ) → 9 ≤ x → 13 < x → eqb x 32 ≡ is_space x
-unfolding is_space
-space-high x l h = rw (le-leb 9 x l, lt-leb x 13 h)
-
--- ---- a loop from the front at i
-
-pub left-space : (s : List ℕ) (i : ℕ) → i < length s → is_space (get_or s i 0) ≡ true → trim_left (drop i s) ≡ trim_left (drop (i + 1) s)
-unfolding trim_left
-left-space s i h e = rw (drop-cons s i 0 h, e, add-one)
-
-pub left_other : (s : List ℕ) (i : ℕ) → i < length s → is_space (get_or s i 0) ≡ false → trim_left (drop i s) ≡ drop i s
-unfolding trim_left
-left_other s i h e = rw (drop-cons s i 0 h, e)
-
-pub left_end : (s : List ℕ) (i : ℕ) → length s ≤ i → trim_left (drop i s) ≡ drop i s
-unfolding trim_left
-left_end s i h = rw (drop_of_length-le s {i = i} h)
 
 -- ---- a loop from the end at n
 
@@ -51,12 +29,60 @@ end-other [] x e = rw e
 end-other (y ∷ []) x e = rw e
 end-other (y ∷ z ∷ s) x e = rw (end-other (z ∷ s) x e)
 
-pub right-space : (s : List ℕ) (n : ℕ) → n < length s → is_space (get_or s n 0) ≡ true → trim_right (take (n + 1) s) ≡ trim_right (take n s)
-right-space s n h e = rw (add-one, take-suc s n 0 h) (end-space (take n s) (get_or s n 0) e)
+-- how many spaces stand in front
+abbrev pub spaces : List ℕ → ℕ
+spaces s = position_or_len (λ x. not (is_space x)) s
 
-pub right-other : (s : List ℕ) (n : ℕ) → n < length s → is_space (get_or s n 0) ≡ false → trim_right (take (n + 1) s) ≡ take (n + 1) s
-right-other s n h e = rw (add-one, take-suc s n 0 h) (end-other (take n s) (get_or s n 0) e)
+found-at : (n m : ℕ) → n ≤ m → unwrap_or (cond (ltb n m) (Some n) None) m ≡ n
+found-at n m h = go (ltb n m) refl
+  where
+    go : (t : Bool) → ltb n m ≡ t → unwrap_or (cond t (Some n) None) m ≡ n
+    go true e = refl
+    go false e = omega (arith, ltb-false n m e)
 
-pub right-none : trim_right [] ≡ []
+-- where the code finds the first byte that passes a test, or the end
+pub found_first : (p : ℕ → Bool) (s : List ℕ) → (unwrap_or (position p s) (length s) ≡ position_or_len p s) × (position_or_len p s ≤ length s)
+found_first p s =
+    let h = prefix_len-le-length (λ x. not (p x)) s in
+    (found-at (position_or_len p s) (length s) h, h)
+
+drop-spaces : (s : List ℕ) → drop (spaces s) s ≡ trim_left s
+unfolding trim_left
+drop-spaces [] = refl
+drop-spaces (x ∷ s) = go (is_space x) (drop-spaces s)
+  where
+    go : (t : Bool) → drop (spaces s) s ≡ trim_left s → drop (cond (not (not t)) (1 + spaces s) 0) (x ∷ s) ≡ cond t (trim_left s) (x ∷ s)
+    go true i = rw one-add i
+    go false i = refl
+
+-- where the code finds the first byte that is no space
+pub front-at : (s : List ℕ) (r : ℕ) → r ≡ unwrap_or (position (λ x. not (is_space x)) s) (length s) → (r ≤ length s) × (drop r s ≡ trim_left s)
+front-at s r e =
+    let f = found_first (λ x. not (is_space x)) s in
+    let k : r ≡ spaces s = e ∙ f.0 in
+    (omega (arith, k, f.1), ap (λ (n : ℕ). drop n s) k ∙ drop-spaces s)
+
+-- s is read from its end as t is from its front
+take-spaces : (t : List ℕ) → take (length t - spaces t) (reverse t) ≡ trim_right (reverse t)
 unfolding trim_right
-right-none = refl
+take-spaces [] = refl
+take-spaces (x ∷ t) = rw (reverse-append (x ∷ []) t) (go (is_space x) refl (take-spaces t))
+  where
+    go : (b : Bool) → is_space x ≡ b → take (length t - spaces t) (reverse t) ≡ trim_right (reverse t)
+        → take (suc (length t) - cond (not (not b)) (1 + spaces t) 0) (reverse t ++ (x ∷ [])) ≡ trim_right (reverse t ++ (x ∷ []))
+    go true e i =
+        let k : suc (length t) - (1 + spaces t) ≡ length t - spaces t = omega arith in
+        let h : length t - spaces t ≤ length (reverse t) = omega (arith, length-reverse t) in
+        rw k (take-append-le (length t - spaces t) (reverse t) (x ∷ []) h ∙ i ∙ sym (end-space (reverse t) x e))
+    go false e i =
+        let k : suc (length t) - 0 ≡ length (reverse t ++ (x ∷ [])) = simp (length-append, length-reverse) (omega arith) in
+        ap (λ (n : ℕ). take n (reverse t ++ (x ∷ []))) k ∙ take-length (reverse t ++ (x ∷ [])) ∙ sym (end-other (reverse t) x e)
+
+-- where the code finds the last byte that is no space
+pub back-at : (s : List ℕ) (r : ℕ) → r ≡ length s - unwrap_or (position (λ x. not (is_space x)) (reverse s)) (length s) → (r ≤ length s) × (take r s ≡ trim_right s)
+back-at s r e =
+    let n : length (reverse s) ≡ length s = length-reverse s in
+    let f : unwrap_or (position (λ x. not (is_space x)) (reverse s)) (length (reverse s)) ≡ spaces (reverse s) = (found_first (λ x. not (is_space x)) (reverse s)).0 in
+    let g : unwrap_or (position (λ x. not (is_space x)) (reverse s)) (length s) ≡ spaces (reverse s) = subst (λ (m : ℕ). unwrap_or (position (λ x. not (is_space x)) (reverse s)) m ≡ spaces (reverse s)) n f in
+    let k : r ≡ length (reverse s) - spaces (reverse s) = e ∙ ap (λ (m : ℕ). length s - m) g ∙ ap (λ (m : ℕ). m - spaces (reverse s)) (sym n) in
+    (omega (arith, k, n), ap (λ (m : ℕ). take m s) k ∙ subst (λ (u : List ℕ). take (length (reverse s) - spaces (reverse s)) u ≡ trim_right u) (reverse-reverse s) (take-spaces (reverse s)))

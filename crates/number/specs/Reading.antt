@@ -1,13 +1,10 @@
 -- Whole numbers read from a text (document 01, "Numbers in tags").
 use Rattle.std.specs.Prelude.{ℕ, ◌+◌, ◌-◌, ◌*◌, Bool, true, false, ◌||◌, cond, List, [], ◌∷◌, ltb, leb, eqb, ℤ, pos, negsuc, neg_ℤ}
-use Rattle.std.proofs.Math.Option.{Option, none, some, map}
+use Rattle.std.specs.Prelude.{Option, None, Some, option_map}
 use Rattle.std.specs.Int.Signed.{mag}
 use Rattle.lists.specs.Bytes.{among}
 use Rattle.lists.specs.Choice.{provided}
 use Rattle.number.specs.Trim.{trim}
-use Rattle.number.specs.declared.Natural as n
-use Rattle.number.specs.declared.I32Field as i
-use Rattle.number.specs.declared.U8Field as u
 
 -- 0 to 9
 unfoldable pub is_digit : ℕ → Bool
@@ -15,12 +12,12 @@ is_digit x = among 0x30 0x39 x
 
 -- digits read behind those that gave n; none at any other byte
 unfoldable pub digits_from : ℕ → List ℕ → Option ℕ
-digits_from n [] = some n
-digits_from n (x ∷ s) = cond (is_digit x) (digits_from (10 * n + (x - 0x30)) s) none
+digits_from n [] = Some n
+digits_from n (x ∷ s) = cond (is_digit x) (digits_from (10 * n + (x - 0x30)) s) None
 
 -- one digit at least
 unfoldable pub natural : List ℕ → Option ℕ
-natural [] = none
+natural [] = None
 natural (x ∷ s) = digits_from 0 (x ∷ s)
 
 -- is there a `-` in front?
@@ -40,7 +37,7 @@ with_sign false n = pos n
 
 -- an optional sign, and digits
 unfoldable pub whole : List ℕ → Option ℤ
-whole s = map (with_sign (is_minus s)) (natural (unsigned s))
+whole s = option_map (with_sign (is_minus s)) (natural (unsigned s))
 
 -- does z fit 32 bits with a sign?
 abbrev pub is_i32 : ℤ → Bool
@@ -57,19 +54,4 @@ i32 s = provided is_i32 (whole (trim s))
 
 -- a number field of a range; `-` is no sign here, so `-0` does not parse
 unfoldable pub u8 : List ℕ → Option ℕ
-u8 s = cond (is_minus (trim s)) none (provided (λ n. leb n 255) (natural (unsigned (trim s))))
-
--- digits read, as the code answers it
-abbrev pub natural_of : Option ℕ → n.Natural
-natural_of none = n.TheVariants.Nothing
-natural_of (some k) = n.TheVariants.Value k
-
--- the same of a number field of an undo text
-abbrev pub i32_of : Option ℤ → i.I32Field
-i32_of none = i.TheVariants.Nothing
-i32_of (some z) = i.TheVariants.Value z
-
--- the same of a number field of a range
-abbrev pub u8_of : Option ℕ → u.U8Field
-u8_of none = u.TheVariants.Nothing
-u8_of (some k) = u.TheVariants.Value k
+u8 s = cond (is_minus (trim s)) None (provided (λ n. leb n 255) (natural (unsigned (trim s))))

@@ -1,201 +1,116 @@
 // Whole numbers read from texts. Nothing here knows a tag.
 #![tactic(auto)]
 
-ghost use Rattle.std.specs.Prelude.{◌≡◌, ◌-◌, ◌≤◌, ◌<◌, length, take, drop, leb, nat_abs};
-ghost use Rattle.integers.specs.Apart.{whole_of};
+ghost use Rattle.std.specs.Prelude.{◌≡◌, ◌-◌, ◌≤◌, ◌<◌, length, take, drop, leb};
 ghost use Rattle.lists.specs.Choice.{provided};
 ghost use Rattle.number.specs.Trim as T;
 ghost use Rattle.number.specs.Fields as F;
 ghost use Rattle.number.specs.Reading as R;
 
-use integers::Apart;
-
-// Digits that were read.
-#[derive(Clone, Copy)]
-pub enum Natural {
-    Value(u32),
-    Nothing,
-}
-
-// A field that should be a number of 32 bits with a sign.
-#[derive(Clone, Copy)]
-pub enum I32Field {
-    Value(i32),
-    Nothing,
-}
-
-// A field that should be a byte's number.
-#[derive(Clone, Copy)]
-pub enum U8Field {
-    Value(u8),
-    Nothing,
-}
-
+#[tactic(auto, using(std::proofs::lemmas::Bool::Decides::nat_tests), unfolding(crate::specs::Trim::is_space))]
 fn is_space(x: u8) -> bool
     ensures { result ≡ T.is_space x }
 {
-    if x < 9 {
-        return false;
-    }
-    if x <= 13 {
-        return true;
-    }
-    x == 32
+    matches!(x, 9..=13 | 32)
 }
 
+#[tactic(auto, using(std::proofs::lemmas::Bool::Decides::nat_tests), unfolding(crate::specs::Reading::is_digit))]
 pub fn is_digit(x: u8) -> bool
     ensures { result ≡ R.is_digit x }
 {
-    if x < 48 {
-        return false;
-    }
-    x <= 57
+    48 <= x && x <= 57
 }
 
 // The place of the first byte that is no space.
 fn front(s: &[u8]) -> usize
     ensures { (result ≤ length s.now) × (drop result s.now ≡ T.trim_left s.now) }
 {
-    let mut i = 0;
-    while i < s.len() {
-        if !is_space(s[i]) {
-            return i;
-        }
-        i += 1;
-    }
-    i
+    s.iter().position(|x| !is_space(*x)).unwrap_or(s.len())
 }
 
 // The place behind the last byte that is no space.
 fn back(s: &[u8]) -> usize
     ensures { (result ≤ length s.now) × (take result s.now ≡ T.trim_right s.now) }
 {
-    let mut n = s.len();
-    while 0 < n {
-        let k = n - 1;
-        if !is_space(s[k]) {
-            return n;
-        }
-        n = k;
-    }
-    n
+    s.len()
+        - s.iter()
+            .rev()
+            .position(|x| !is_space(*x))
+            .unwrap_or(s.len())
 }
 
 // The text without the spaces at its ends.
 pub fn trim<'a>(s: &'a [u8]) -> &'a [u8]
     ensures { result.now ≡ T.trim s.now }
 {
-    let a = front(s);
-    let t = &s[a..];
-    let n = back(t);
-    &t[0..n]
-}
-
-// What a digit stands for.
-fn digit_value(x: u8) -> u64
-    ensures { (result ≡ x - 48) × (result < 256) }
-{
-    if x < 48 {
-        return 0;
-    }
-    (x - 48) as u64
+    let t = &s[front(s)..];
+    &t[..back(t)]
 }
 
 // Digits, one at least, that give a number up to `limit`.
-pub fn parse_natural(s: &[u8], limit: u32) -> Natural
-    ensures { result ≡ R.natural_of (provided (λ n. leb n limit) (R.natural s.now)) }
+pub fn parse_natural(s: &[u8], limit: u32) -> Option<u32>
+    ensures { result ≡ provided (λ n. leb n limit) (R.natural s.now) }
 {
-    if s.len() == 0 {
-        return Natural::Nothing;
+    if s.is_empty() {
+        return None;
     }
-    let most = limit as u64;
     let mut n: u64 = 0;
-    let mut i = 0;
-    while i < s.len() {
-        let x = s[i];
+    for &x in s {
         if !is_digit(x) {
-            return Natural::Nothing;
+            return None;
         }
-        n = n * 10 + digit_value(x);
-        if most < n {
-            return Natural::Nothing;
+        n = n * 10 + u64::from(x - b'0');
+        if u64::from(limit) < n {
+            return None;
         }
-        i += 1;
     }
-    Natural::Value(n as u32)
+    Some(n as u32)
 }
 
 // Whether a `-` stands in front.
+#[tactic(auto, unfolding(crate::specs::Reading::is_minus))]
 pub fn is_minus(s: &[u8]) -> bool
     ensures { result ≡ R.is_minus s.now }
 {
-    if s.len() == 0 {
-        return false;
-    }
-    s[0] == b'-'
+    matches!(s, [b'-', ..])
 }
 
 // How many bytes the sign has.
+#[tactic(auto, using(std::proofs::lemmas::Bool::Decides::nat_tests, crate::proofs::Digits::unsigned_is))]
 pub fn sign_len(s: &[u8]) -> usize
     ensures { (result ≤ length s.now) × (drop result s.now ≡ R.unsigned s.now) }
 {
-    if s.len() == 0 {
-        return 0;
+    match s {
+        [b'+' | b'-', ..] => 1,
+        _ => 0,
     }
-    let x = s[0];
-    if x == b'+' {
-        return 1;
-    }
-    if x == b'-' {
-        return 1;
-    }
-    0
 }
 
 // An optional sign and digits, nothing trimmed.
-pub fn parse_whole(s: &[u8]) -> I32Field
-    ensures { result ≡ R.i32_of (provided R.is_i32 (R.whole s.now)) }
+pub fn parse_whole(s: &[u8]) -> Option<i32>
+    ensures { result ≡ provided R.is_i32 (R.whole s.now) }
 {
-    let at = sign_len(s);
-    let digits = &s[at..];
-    if is_minus(s) {
-        let Natural::Value(n) = parse_natural(digits, 2147483648) else {
-            return I32Field::Nothing;
-        };
-        if n == 0 {
-            return I32Field::Value(0);
-        }
-        return I32Field::Value(integers::together(Apart {
-            down: true,
-            by: n - 1,
-        }));
-    }
-    let Natural::Value(n) = parse_natural(digits, 2147483647) else {
-        return I32Field::Nothing;
-    };
-    I32Field::Value(integers::together(Apart { down: false, by: n }))
+    let n = i64::from(parse_natural(&s[sign_len(s)..], 2147483648)?);
+    i32::try_from(if is_minus(s) { -n } else { n }).ok()
 }
 
 // A field of an undo text.
-pub fn parse_i32(s: &[u8]) -> I32Field
-    ensures { result ≡ R.i32_of (R.i32 s.now) }
+pub fn parse_i32(s: &[u8]) -> Option<i32>
+    ensures { result ≡ R.i32 s.now }
 {
     parse_whole(trim(s))
 }
 
 // A field of a range: no `-`, not even before 0.
-pub fn parse_u8(s: &[u8]) -> U8Field
-    ensures { result ≡ R.u8_of (R.u8 s.now) }
+pub fn parse_u8(s: &[u8]) -> Option<u8>
+    ensures { result ≡ R.u8 s.now }
 {
     let t = trim(s);
     if is_minus(t) {
-        return U8Field::Nothing;
+        return None;
     }
-    let at = sign_len(t);
-    let Natural::Value(n) = parse_natural(&t[at..], 255) else {
-        return U8Field::Nothing;
-    };
-    U8Field::Value(n as u8)
+    let n = parse_natural(&t[sign_len(t)..], 255)?;
+    Some(n as u8)
 }
 
 // Field `n` of the fields between commas, empty where there is none.
@@ -203,26 +118,13 @@ pub fn field<'a>(s: &'a [u8], n: usize) -> &'a [u8]
     ensures { result.now ≡ F.field n s.now }
 {
     let mut at = 0;
-    let mut left = n;
-    while 0 < left {
+    for _ in 0..n {
         let e = lists::find_byte(s, at, b',');
         if e == s.len() {
-            return &s[e..e];
+            return &s[e..];
         }
         at = e + 1;
-        left -= 1;
     }
     let e = lists::find_byte(s, at, b',');
     &s[at..e]
-}
-
-// A number without its sign.
-pub fn magnitude(a: Apart) -> u32
-    requires { a.by < 2147483648 }
-    ensures { result ≡ nat_abs (whole_of a) }
-{
-    if a.down {
-        return a.by + 1;
-    }
-    a.by
 }

@@ -5,8 +5,14 @@ use native.Mathlib.Nat.{lt_of_lt_of_le, mul-le-mul, mul-le-mul_right, le_of_mul-
 use mathlib.Core.Path.{◌≡◌, sym, ◌∙◌}
 use lib.Dec.{leb}
 use lib.Pow.{pow_pos, pow-add, pow_mono}
-use lib.IntN.{pos, negsuc}
-use borrow.Author.Tests.{le-leb, lt-leb, leb-true, leb-false}
+use lib.IntN.{ℤ, pos, negsuc, nat_abs}
+use lib.Signed.{lt_z, shr_z}
+use mir.Syntax.{w32}
+use mir.Val.{SFits}
+use native.Mathlib.Numerals.{add-one}
+use mathlib.Core.Bool.{true, false}
+use Rattle.std.specs.Int.{int_rem_euclid}
+use borrow.Author.Tests.{le-leb, lt-leb, leb-true, leb-false, ltb-true}
 use Rattle.integers.proofs.Sign.{cases}
 use Rattle.peaks.specs.Peak.{reaches, largest, new_count}
 use Rattle.peaks.specs.Halves.{capped, within}
@@ -86,10 +92,30 @@ module _ (p k n : ℕ) (h : 2 * p < 268435456) (z : 0 < n) (l : n < 134217728) w
 -- ---- the new count, as the code finds it
 
 module _ (p k : ℕ) (h : 2 * p < 268435456) where
-  pub count-up : new_count (pos k) p ≡ largest (within 0 (capped (2 * p) (k / 4) ^ 4 * 2 ^ (k % 4))) 27 0
+  count-up : new_count (pos k) p ≡ largest (within 0 (capped (2 * p) (k / 4) ^ 4 * 2 ^ (k % 4))) 27 0
   unfolding new_count
   count-up = largest-same (reaches p (pos k)) (within 0 (capped (2 * p) (k / 4) ^ 4 * 2 ^ (k % 4))) 134217728 (λ n z l. up p k n h z l) 27 0 (omega arith)
 
-  pub count_down : new_count (negsuc k) p ≡ largest (within (k / 4 + 1) ((2 * p) ^ 4 * 2 ^ (3 - k % 4))) 27 0
+  count_down : new_count (negsuc k) p ≡ largest (within (k / 4 + 1) ((2 * p) ^ 4 * 2 ^ (3 - k % 4))) 27 0
   unfolding new_count
   count_down = largest-same (reaches p (negsuc k)) (within (k / 4 + 1) ((2 * p) ^ 4 * 2 ^ (3 - k % 4))) 134217728 (λ n z l. down p k n h z l) 27 0 (omega arith)
+
+-- the same by the steps' quarters, as the code divides them
+module _ (p : ℕ) (z : ℤ) (h : 2 * p < 268435456) where
+  pub count-below : lt_z (shr_z z 4) (pos 0) ≡ true → new_count z p ≡ largest (within (nat_abs (shr_z z 4)) ((2 * p) ^ 4 * 2 ^ nat_abs (int_rem_euclid z (pos 4)))) 27 0
+  count-below t = go z t
+    where
+      go : (z : ℤ) → lt_z (shr_z z 4) (pos 0) ≡ true → new_count z p ≡ largest (within (nat_abs (shr_z z 4)) ((2 * p) ^ 4 * 2 ^ nat_abs (int_rem_euclid z (pos 4)))) 27 0
+      go (pos k) t = absurd (omega (arith, ltb-true (k / 4) 0 t))
+      go (negsuc k) t = rw add-one at (count_down p k h)
+
+  pub count-above : lt_z (shr_z z 4) (pos 0) ≡ false → new_count z p ≡ largest (within 0 (capped (2 * p) (nat_abs (shr_z z 4)) ^ 4 * 2 ^ nat_abs (int_rem_euclid z (pos 4)))) 27 0
+  count-above t = go z t
+    where
+      go : (z : ℤ) → lt_z (shr_z z 4) (pos 0) ≡ false → new_count z p ≡ largest (within 0 (capped (2 * p) (nat_abs (shr_z z 4)) ^ 4 * 2 ^ nat_abs (int_rem_euclid z (pos 4)))) 27 0
+      go (pos k) t = count-up p k h
+      go (negsuc k) t = absurd (let e : ◌≡◌ {A = ℕ} 0 1 = cc in omega arith)
+
+pub quarter_fits : (z : ℤ) → SFits w32 z → SFits w32 (shr_z z 4)
+quarter_fits (pos n) f = record { sfits = let h : n < 2147483648 = f.sfits in omega arith }
+quarter_fits (negsuc n) f = record { sfits = let h : n < 2147483648 = f.sfits in omega arith }

@@ -4,7 +4,8 @@ use native.Mathlib.Omega.{arith}
 use native.Mathlib.Nat.{le_trans, lt_of_lt_of_le, lt_irrefl, mul-le-mul_right, mul-one, pow-le-pow_left, pow-lt-pow_left}
 use mathlib.Core.Path.{◌≡◌, refl, sym}
 use mathlib.Core.Bool.{Bool, true, false, cond}
-use mathlib.Core.Option.{Option, none, some, map, none-ne-some}
+use Rattle.std.proofs.lemmas.Option.{none-some}
+use Rattle.std.specs.Prelude.{Option, None, Some, option_map}
 use mathlib.Core.List.{List}
 use lib.Dec.{ltb}
 use lib.IntN.{ℤ, pos}
@@ -60,23 +61,23 @@ unmoved p = record {
 
 -- a text that moved has a count, and its new count has a text
 module _ (s : ℤ) (text w : List ℕ) where
-  taken : (p : ℕ) → parse_peak text ≡ some p → (new_count s p < 100000000) → some (format_peak (new_count s p)) ≡ some w → MovedTo s text w
+  taken : (p : ℕ) → parse_peak text ≡ Some p → (new_count s p < 100000000) → Some (format_peak (new_count s p)) ≡ Some w → MovedTo s text w
   taken p e h f = record { old = p; new = new_count s p; read = e; nearest = count-nearest p s (omega arith); fits = h; written = let g : format_peak (new_count s p) ≡ w = cc in sym g }
 
-  pub moved_to : shift_peak s text ≡ some w → MovedTo s text w
+  pub moved_to : shift_peak s text ≡ Some w → MovedTo s text w
   unfolding shift_peak
   moved_to e = go (parse_peak text) refl e
     where
-      under : (p : ℕ) → parse_peak text ≡ some p → (b : Bool) → ltb (new_count s p) 100000000 ≡ b
-          → map format_peak (cond b (some (new_count s p)) none) ≡ some w → MovedTo s text w
+      under : (p : ℕ) → parse_peak text ≡ Some p → (b : Bool) → ltb (new_count s p) 100000000 ≡ b
+          → option_map format_peak (cond b (Some (new_count s p)) None) ≡ Some w → MovedTo s text w
       under p f true t e = taken p f (ltb-true (new_count s p) 100000000 t) e
-      under p f false t e = absurd (none-ne-some w e)
+      under p f false t e = absurd (none-some w e)
 
-      go : (o : Option ℕ) → parse_peak text ≡ o → map format_peak (provided fits_text (map (new_count s) o)) ≡ some w → MovedTo s text w
-      go none f e = absurd (none-ne-some w e)
-      go (some p) f e = under p f (ltb (new_count s p) 100000000) refl e
+      go : (o : Option ℕ) → parse_peak text ≡ o → option_map format_peak (provided fits_text (option_map (new_count s) o)) ≡ Some w → MovedTo s text w
+      go None f e = absurd (none-some w e)
+      go (Some p) f e = under p f (ltb (new_count s p) 100000000) refl e
 
-  pub to-moved : MovedTo s text w → shift_peak s text ≡ some w
+  pub to-moved : MovedTo s text w → shift_peak s text ≡ Some w
   unfolding shift_peak
   to-moved x = rw (x.read, nearest-count x.old s x.nearest (omega (arith, x.fits)), lt-ltb x.new 100000000 x.fits, x.written)
 

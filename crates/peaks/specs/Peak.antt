@@ -1,6 +1,6 @@
 -- Peak texts, and how they move with the gains (document 02, request 7).
 use Rattle.std.specs.Prelude.{ℕ, zero, suc, ◌+◌, ◌-◌, ◌*◌, ◌/◌, ◌%◌, ◌^◌, ◌≤◌, ◌<◌, Bool, ◌&&◌, cond, ◌≡◌, List, ◌∷◌, ◌++◌, length, leb, ltb, eqb, ℤ, pos}
-use Rattle.std.proofs.Math.Option.{Option, none, some, map}
+use Rattle.std.specs.Prelude.{Option, None, Some, option_map}
 use Rattle.std.specs.Float.Ieee.{up, down}
 use Rattle.lists.specs.Choice.{found, provided}
 use Rattle.number.specs.Fields.{before, behind}
@@ -34,10 +34,10 @@ new_count s p = largest (reaches p s) 27 0
 -- 1 or 2 digits, a point and 6 digits, without sign: as millionths; no digits are no number
 unfoldable pub parse_peak : List ℕ → Option ℕ
 parse_peak text =
-    found (behind 0x2E text) none (λ t.
+    found (behind 0x2E text) None (λ t.
     cond (leb (length (before 0x2E text)) 2 && eqb (length t) 6)
-    (found (natural (before 0x2E text)) none (λ a. map (λ b. a * 1000000 + b) (natural t)))
-    none)
+    (found (natural (before 0x2E text)) None (λ a. option_map (λ b. a * 1000000 + b) (natural t)))
+    None)
 
 -- one digit before the point, or two where the first is not 0
 unfoldable pub format_peak : ℕ → List ℕ
@@ -49,7 +49,7 @@ fits_text n = ltb n 100000000
 
 -- the new text; a text of another form stays as found, and so does one whose new count is 100,000,000 or more
 unfoldable pub shift_peak : ℤ → List ℕ → Option (List ℕ)
-shift_peak s text = map format_peak (provided fits_text (map (new_count s) (parse_peak text)))
+shift_peak s text = option_map format_peak (provided fits_text (option_map (new_count s) (parse_peak text)))
 
 -- ---- what is claimed of the new text
 
@@ -57,7 +57,7 @@ shift_peak s text = map format_peak (provided fits_text (map (new_count s) (pars
 pub record MovedTo (s : ℤ) (text w : List ℕ) : Type 0 where
   pub old : ℕ
   pub new : ℕ
-  pub read : parse_peak text ≡ some old
+  pub read : parse_peak text ≡ Some old
   pub nearest : Nearest old s new
   pub fits : new < 100000000
   pub written : w ≡ format_peak new
@@ -67,8 +67,8 @@ pub record Peaks : Type 0 where
   -- at most one number is nearest
   pub one : (p : ℕ) (s : ℤ) (m n : ℕ) → Nearest p s m → Nearest p s n → m ≡ n
   -- a new text is that of the nearest count, and the text of a nearest count below 100,000,000 is the new one
-  pub to : (s : ℤ) (text w : List ℕ) → shift_peak s text ≡ some w → MovedTo s text w
-  pub from : (s : ℤ) (text w : List ℕ) → MovedTo s text w → shift_peak s text ≡ some w
+  pub to : (s : ℤ) (text w : List ℕ) → shift_peak s text ≡ Some w → MovedTo s text w
+  pub from : (s : ℤ) (text w : List ℕ) → MovedTo s text w → shift_peak s text ≡ Some w
   -- no steps leave the count; the new text has the form and the new count
-  pub no_steps : (text : List ℕ) (p : ℕ) → parse_peak text ≡ some p → shift_peak (pos 0) text ≡ some (format_peak p)
-  pub back : (n : ℕ) → n < 100000000 → parse_peak (format_peak n) ≡ some n
+  pub no_steps : (text : List ℕ) (p : ℕ) → parse_peak text ≡ Some p → shift_peak (pos 0) text ≡ Some (format_peak p)
+  pub back : (n : ℕ) → n < 100000000 → parse_peak (format_peak n) ≡ Some n

@@ -3,7 +3,7 @@ use Prim.Native.Nat.{ℕ, zero, suc, ◌<◌}
 use native.Mathlib.Omega.{arith}
 use mathlib.Core.Path.{◌≡◌, refl, sym, ap, ◌∙◌}
 use mathlib.Core.Bool.{Bool, true, false, not, cond}
-use mathlib.Core.Option.{Option, none, some}
+use Rattle.std.specs.Prelude.{Option, None, Some}
 use mathlib.Core.List.{List, [], ◌∷◌}
 use lib.ListN.{length, get_or}
 use lib.Dec.{eqb}
@@ -42,20 +42,20 @@ never-failed r (t ∷ ts) (e, h) = go (eqb (number_of t.refusal) (number_of r)) 
     go true f = rw e
     go false f = f
 
-none_first : (rs : List Refusal) (ts : List Test) → AllHold ts → first_of rs ts ≡ none
+none_first : (rs : List Refusal) (ts : List Test) → AllHold ts → first_of rs ts ≡ None
 none_first [] ts h = refl
 none_first (r ∷ rs) ts h = rw (never-failed r ts h) (none_first rs ts h)
 
 -- where all hold, nothing is refused
-pub all_held : (ts : List Test) → AllHold ts → refusal_of ts ≡ none
+pub all_held : (ts : List Test) → AllHold ts → refusal_of ts ≡ None
 all_held ts h = none_first order ts h
 
-first-none : (rs : List Refusal) (ts : List Test) (i : ℕ) (d : Refusal) → first_of rs ts ≡ none → i < length rs → failed (get_or rs i d) ts ≡ false
+first-none : (rs : List Refusal) (ts : List Test) (i : ℕ) (d : Refusal) → first_of rs ts ≡ None → i < length rs → failed (get_or rs i d) ts ≡ false
 first-none [] ts i d e h = absurd (omega arith)
 first-none (r ∷ rs) ts i d e h = go (failed r ts) refl e i h (λ j. first-none rs ts j d)
   where
-    go : (b : Bool) → failed r ts ≡ b → cond b (some r) (first_of rs ts) ≡ none → (i : ℕ) → i < length (r ∷ rs)
-        → ((j : ℕ) → first_of rs ts ≡ none → j < length rs → failed (get_or rs j d) ts ≡ false) → failed (get_or (r ∷ rs) i d) ts ≡ false
+    go : (b : Bool) → failed r ts ≡ b → cond b (Some r) (first_of rs ts) ≡ None → (i : ℕ) → i < length (r ∷ rs)
+        → ((j : ℕ) → first_of rs ts ≡ None → j < length rs → failed (get_or rs j d) ts ≡ false) → failed (get_or (r ∷ rs) i d) ts ≡ false
     go true q e i h ih = absurd (let z : ◌≡◌ {A = ℕ} 0 1 = cc in omega arith)
     go false q e zero h ih = q
     go false q e (suc i) h ih = ih i e (omega arith)
@@ -99,18 +99,18 @@ listed TagTooLarge = (refl, omega arith)
 listed NoRoom = (refl, omega arith)
 
 -- where nothing is refused, no test failed
-pub none-failed : (ts : List Test) → refusal_of ts ≡ none → (r : Refusal) → failed r ts ≡ false
+pub none-failed : (ts : List Test) → refusal_of ts ≡ None → (r : Refusal) → failed r ts ≡ false
 none-failed ts e r =
     let (q, h) = listed r in
     ap (λ x. failed x ts) (sym q) ∙ first-none order ts (place_in r) FileTooLong e h
 
 -- so the test of that refusal holds
-pub passed : (ts : List Test) → refusal_of ts ≡ none → (r : Refusal) (b : Bool) → failed r ts ≡ not b → b ≡ true
+pub passed : (ts : List Test) → refusal_of ts ≡ None → (r : Refusal) (b : Bool) → failed r ts ≡ not b → b ≡ true
 passed ts e r b q = not-false b (sym q ∙ none-failed ts e r)
 
 -- ---- plans
 
 -- a call that is done was not refused
-pub done : {A : Type 0} (o : Option Refusal) (a b : A) → planned o a ≡ yes b → (o ≡ none) × (a ≡ b)
-done none a b e = (refl, cc)
-done (some r) a b e = absurd (let z : ◌≡◌ {A = ℕ} 0 1 = cc in omega arith)
+pub done : {A : Type 0} (o : Option Refusal) (a b : A) → planned o a ≡ yes b → (o ≡ None) × (a ≡ b)
+done None a b e = (refl, cc)
+done (Some r) a b e = absurd (let z : ◌≡◌ {A = ℕ} 0 1 = cc in omega arith)

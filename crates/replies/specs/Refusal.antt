@@ -1,6 +1,6 @@
 -- Document 01, "Replies": a number for each refusal, and which one is given where several apply.
 use Rattle.std.specs.Prelude.{ℕ, Bool, false, not, cond, List, [], ◌∷◌, eqb}
-use Rattle.std.proofs.Math.Option.{Option, none, some}
+use Rattle.std.specs.Prelude.{Option, None, Some}
 use Rattle.replies.specs.declared.Refusal.{Refusal}
 use Rattle.replies.specs.declared.Refusal.TheVariants.{
   FileTooLong,
@@ -62,8 +62,8 @@ failed r (t ∷ ts) = cond (eqb (number_of t.refusal) (number_of r)) (not t.hold
 
 -- the first refusal of a list whose test fails: none where all hold
 abbrev pub first_of : List Refusal → List Test → Option Refusal
-first_of [] ts = none
-first_of (r ∷ rs) ts = cond (failed r ts) (some r) (first_of rs ts)
+first_of [] ts = None
+first_of (r ∷ rs) ts = cond (failed r ts) (Some r) (first_of rs ts)
 
 -- how a call with these tests refuses: none where all hold
 abbrev pub refusal_of : List Test → Option Refusal
@@ -76,5 +76,5 @@ pub data Plan (A : Type 0) : Type 0 where
 
 -- refused by the first test that fails, else done
 abbrev pub planned : {A : Type 0} → Option Refusal → A → Plan A
-planned none a = yes a
-planned (some r) a = no r
+planned None a = yes a
+planned (Some r) a = no r

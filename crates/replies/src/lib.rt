@@ -16,7 +16,7 @@ pub const COUNT_LIMIT: usize = 41;
 pub const AREA_LIMIT: usize = 32_768;
 
 // Why a call changed nothing, in the order of document 01's table of replies: the first is its number 1.
-#[derive(Clone, Copy)]
+#[derive(Clone, Copy, PartialEq, Eq, Debug)]
 pub enum Refusal {
     FileTooLong,
     StepOutOfRange,

@@ -3,7 +3,7 @@ use Prim.Native.Nat.{ℕ, ◌+◌, ◌≤◌}
 use native.Mathlib.Omega.{arith}
 use mathlib.Core.Path.{◌≡◌, refl, sym, ap, ◌∙◌}
 use mathlib.Core.Bool.{Bool, true, false}
-use mathlib.Core.Option.{Option, none, some, map}
+use Rattle.std.specs.Prelude.{Option, None, Some, option_map}
 use mathlib.Core.List.{List, [], ◌∷◌, ◌++◌}
 use lib.ListN.{length, length-append}
 use lib.Dec.{leb}
@@ -192,8 +192,8 @@ edit-others (remove key room) n ts = without-without is_mp3gain_key (same_key ke
 
 pub edit-stored : (e : Edit) → is_mp3gain_key (key_of e) ≡ false → (ts : List Item) → undo_in (edit_items e ts) ≡ undo_in ts
 unfolding undo_in stored_undo
-edit-stored (set key value room) n ts = ap (map read_undo) (get_set_other undo_key key value ts (not-by-undo key n))
-edit-stored (remove key room) n ts = ap (map read_undo) (get-without (same_key key) (same-caseless key) undo_key ts (not-undo key n))
+edit-stored (set key value room) n ts = ap (option_map read_undo) (get_set_other undo_key key value ts (not-by-undo key n))
+edit-stored (remove key room) n ts = ap (option_map read_undo) (get-without (same_key key) (same-caseless key) undo_key ts (not-undo key n))
 
 -- nor does it add an undo item
 pub edit-once : (e : Edit) → is_mp3gain_key (key_of e) ≡ false → (ts : List Item) → count_of (same_key undo_key) ts ≤ 1 → count_of (same_key undo_key) (edit_items e ts) ≤ 1
@@ -229,10 +229,10 @@ edit-fewer front back ts e n p =
 -- ---- level
 
 -- what level books is read back
-pub level-stored : (l : Level) (ts : List Item) (gs : List ℕ) → numbers_fit (booked l ts) ≡ true → undo_in (levelled_items l ts gs) ≡ some (booked_by (undo_in ts) l)
+pub level-stored : (l : Level) (ts : List Item) (gs : List ℕ) → numbers_fit (booked l ts) ≡ true → undo_in (levelled_items l ts gs) ≡ Some (booked_by (undo_in ts) l)
 unfolding undo_in stored_undo levelled_items booked_by
 level-stored l ts gs n =
-    rw (get_set_other undo_key minmax_key _ _ key-facts.0, get_set_same) (ap some (undo-back (booked l ts) l.mode n ∙ rw (booked-is l ts)))
+    rw (get_set_other undo_key minmax_key _ _ key-facts.0, get_set_same) (ap Some (undo-back (booked l ts) l.mode n ∙ rw (booked-is l ts)))
 
 -- what an accepted level call says; new: its items
 pub record LevelPasses (front : List ℕ) (ts new : List Item) (back left : List ℕ) (l : Level) : Type 0 where
@@ -311,7 +311,7 @@ module _ (front back : List ℕ) (ts : List Item) (s : Sound front ts back) (lef
   abbrev undone_text : List ℕ → Levelled
   undone_text text = record { out = file_of front (others ts) back; left = undone_left text left; right = undone_right text right; peaks = 0 }
 
-  undo-text : (room : ℕ) (text : List ℕ) → count_of (same_key undo_key) ts ≤ 1 → length (file_of front ts back) ≤ file_limit → is_there left ≡ true → stored_undo ts ≡ some text
+  undo-text : (room : ℕ) (text : List ℕ) → count_of (same_key undo_key) ts ≤ 1 → length (file_of front ts back) ≤ file_limit → is_there left ≡ true → stored_undo ts ≡ Some text
       → length (file_of front ts back) ≤ room → undo_plan (file_of front ts back) left right room ≡ yes (undone_text text)
   unfolding undo_plan
   undo-text room text once i n q h =
@@ -327,13 +327,13 @@ module _ (front back : List ℕ) (ts : List Item) (s : Sound front ts back) (lef
         room-of room (file_of front (others ts) back) (omega arith) (omega arith),
       )
 
-  text_of : (u : Undo) → undo_in ts ≡ some u → (text : List ℕ) × (stored_undo ts ≡ some text) × (read_undo text ≡ u)
+  text_of : (u : Undo) → undo_in ts ≡ Some u → (text : List ℕ) × (stored_undo ts ≡ Some text) × (read_undo text ≡ u)
   unfolding undo_in
   text_of u e = go (stored_undo ts) refl e
     where
-      go : (t : Option (List ℕ)) → stored_undo ts ≡ t → map read_undo t ≡ some u → (text : List ℕ) × (stored_undo ts ≡ some text) × (read_undo text ≡ u)
-      go none q e = absurd (let z : ◌≡◌ {A = ℕ} 0 1 = cc in omega arith)
-      go (some text) q e = (text, q, cc)
+      go : (t : Option (List ℕ)) → stored_undo ts ≡ t → option_map read_undo t ≡ Some u → (text : List ℕ) × (stored_undo ts ≡ Some text) × (read_undo text ≡ u)
+      go None q e = absurd (let z : ◌≡◌ {A = ℕ} 0 1 = cc in omega arith)
+      go (Some text) q e = (text, q, cc)
 
   -- what an undo gives
   pub record Undone (room : ℕ) (u : Undo) : Type 0 where
@@ -343,7 +343,7 @@ module _ (front back : List ℕ) (ts : List Item) (s : Sound front ts back) (lef
     pub left_is : result.left ≡ undone_by on_left u left
     pub right_is : result.right ≡ undone_by on_right u right
 
-  pub undo-gives : (room : ℕ) (u : Undo) → count_of (same_key undo_key) ts ≤ 1 → length (file_of front ts back) ≤ file_limit → is_there left ≡ true → undo_in ts ≡ some u
+  pub undo-gives : (room : ℕ) (u : Undo) → count_of (same_key undo_key) ts ≤ 1 → length (file_of front ts back) ≤ file_limit → is_there left ≡ true → undo_in ts ≡ Some u
       → length (file_of front ts back) ≤ room → Undone room u
   unfolding undone_by read_undo
   undo-gives room u once i n e h =

@@ -4,7 +4,7 @@ use native.Mathlib.Omega.{arith}
 use mathlib.Core.Path.{◌≡◌, refl, sym, ap, ◌∙◌, subst}
 use mathlib.Core.Logic.{◌↔◌, ◌⊎◌, inl, inr}
 use mathlib.Core.Bool.{Bool, true, false, true≢false}
-use mathlib.Core.Option.{none, some}
+use Rattle.std.specs.Prelude.{None, Some}
 use mathlib.Core.List.{List, [], ◌∷◌, ◌++◌, map}
 use lib.ListN.{length, get_or, length-map}
 use Rattle.replies.specs.Limits.{file_limit}
@@ -184,10 +184,10 @@ module _ (b : Book) (s : State) (h : Holds b s) where
     level-desk : desk (next s (level l room)) ≡ level_desk (desk s) l
     unfolding desk level_desk new level_holds
     level-desk =
-        let p : undo_in (items_of (next s (level l room)).file) ≡ some (booked_by (undo_in (items_of s.file)) l)
+        let p : undo_in (items_of (next s (level l room)).file) ≡ Some (booked_by (undo_in (items_of s.file)) l)
         = ap undo_in (holds-items b (next s (level l room)) level_holds)
         ∙ level-stored l h.items (gains_to l s.left s.right) level-ok.numbers
-        ∙ ap (λ (ts : List Item). some (booked_by (undo_in ts) l)) (sym (holds-items b s h)) in
+        ∙ ap (λ (ts : List Item). Some (booked_by (undo_in ts) l)) (sym (holds-items b s h)) in
         let q : (next s (level l room)).left ≡ adjusted l.mode l.left s.left = rw level-next in
         let r : (next s (level l room)).right ≡ adjusted l.mode l.right s.right = rw level-next in
         λ i. record { stored = p i; lefts = q i; rights = r i }
@@ -351,7 +351,7 @@ module _ (s : State) (cs : List Call) (room : ℕ) (given : Given s cs room) whe
     once = omega (arith, count-fewer is_mp3gain_key (same_key undo_key) by-undo (items_of s.file), given.none-of-eight);
   }
 
-  first-stored : (desk s).stored ≡ none
+  first-stored : (desk s).stored ≡ None
   unfolding desk undo_in stored_undo
   first-stored = rw (none-got (items_of s.file) given.none-of-eight)
 
@@ -396,7 +396,7 @@ module _ (s : State) (cs : List Call) (room : ℕ) (given : Given s cs room) whe
   undo-is =
       let here = all.holds in
       let ready = all.reaches given.some_level in
-      let stored : undo_in here.items ≡ some back.undo = sym (stored_at b' s' here) ∙ ap (λ (d : Desk). d.stored) all.desk-is ∙ back.item in
+      let stored : undo_in here.items ≡ Some back.undo = sym (stored_at b' s' here) ∙ ap (λ (d : Desk). d.stored) all.desk-is ∙ back.item in
       undo-gives b'.front b'.back here.items here.sound s'.left s'.right room back.undo here.once
       (subst (λ (f : List ℕ). length f ≤ file_limit) here.file ready.small) ready.some_left stored
       (subst (λ (f : List ℕ). length f ≤ room) here.file given.long)

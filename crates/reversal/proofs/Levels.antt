@@ -1,8 +1,8 @@
 -- Level calls on numbers alone: the stored undo item, the accepted calls in a row, and what undo by the stored item does.
 use mathlib.Core.Path.{◌≡◌, refl, sym, ap, ◌∙◌, subst}
 use mathlib.Core.Bool.{true}
-use mathlib.Core.Option
-use mathlib.Core.Option.{Option, none, some, get_or}
+use Rattle.std.specs.Prelude.{Option, None, Some, unwrap_or}
+use Rattle.std.specs.Prelude.{option_map}
 use mathlib.Core.List.{List, [], ◌∷◌, map}
 use Prim.Native.Nat.{ℕ, ◌<◌}
 use native.Mathlib.Omega.{arith}
@@ -34,18 +34,18 @@ unfoldable pub read_undo : List ℕ → Undo
 read_undo s = record { left = (parse_undo s).left; right = (parse_undo s).right; mode = mode_of (undo_wraps s) }
 
 unfoldable pub undo_in : List Item → Option Undo
-undo_in ts = Option.map read_undo (stored_undo ts)
+undo_in ts = option_map read_undo (stored_undo ts)
 
 -- without an item the numbers are 0
 abbrev pub number : Side → Option Undo → ℤ
-number side none = pos 0
-number on_left (some u) = u.left
-number on_right (some u) = u.right
+number side None = pos 0
+number on_left (Some u) = u.left
+number on_right (Some u) = u.right
 
 -- the item, if there is one, has the call's flag
 abbrev pub Agrees : Option Undo → GainMode → Type 0
-Agrees none m = Unit {0}
-Agrees (some u) m = m ≡ u.mode
+Agrees None m = Unit {0}
+Agrees (Some u) m = m ≡ u.mode
 
 unfoldable pub accumulate : Side → Option Undo → Level → ℤ
 accumulate side o l = sat32 (number side o -ℤ step_on side l)
@@ -55,20 +55,20 @@ booked_by o l = record { left = accumulate on_left o l; right = accumulate on_ri
 
 -- what level stores
 booked-text : (o : Option (List ℕ)) (l : Level)
-    → accumulated (get_or o []) l.left l.right ≡ record { left = accumulate on_left (Option.map read_undo o) l; right = accumulate on_right (Option.map read_undo o) l }
+    → accumulated (unwrap_or o []) l.left l.right ≡ record { left = accumulate on_left (option_map read_undo o) l; right = accumulate on_right (option_map read_undo o) l }
 unfolding accumulated accumulate read_undo
-booked-text none l = rw undo-none.0
-booked-text (some s) l = refl
+booked-text None l = rw undo-none.0
+booked-text (Some s) l = refl
 
 pub booked-is : (l : Level) (ts : List Item) → booked l ts ≡ record { left = accumulate on_left (undo_in ts) l; right = accumulate on_right (undo_in ts) l }
 unfolding booked undo_in
 booked-is l ts = booked-text (stored_undo ts) l
 
-agrees-text : (m : GainMode) (o : Option (List ℕ)) → found o true (agrees m) ≡ true → Agrees (Option.map read_undo o) m
+agrees-text : (m : GainMode) (o : Option (List ℕ)) → found o true (agrees m) ≡ true → Agrees (option_map read_undo o) m
 unfolding read_undo
-agrees-text m none e = tt
-agrees-text Saturating (some s) e = sym (ap mode_of (not-true (undo_wraps s) e))
-agrees-text Wrapping (some s) e = sym (ap mode_of e)
+agrees-text m None e = tt
+agrees-text Saturating (Some s) e = sym (ap mode_of (not-true (undo_wraps s) e))
+agrees-text Wrapping (Some s) e = sym (ap mode_of e)
 
 pub agrees-is : (m : GainMode) (ts : List Item) → found (stored_undo ts) true (agrees m) ≡ true → Agrees (undo_in ts) m
 unfolding undo_in
@@ -123,11 +123,11 @@ gains on_left d = d.lefts
 gains on_right d = d.rights
 
 unfoldable pub level_desk : Desk → Level → Desk
-level_desk d c = record { stored = some (booked_by d.stored c); lefts = map (adjust c.mode c.left) d.lefts; rights = map (adjust c.mode c.right) d.rights }
+level_desk d c = record { stored = Some (booked_by d.stored c); lefts = map (adjust c.mode c.left) d.lefts; rights = map (adjust c.mode c.right) d.rights }
 
 -- undo adjusts by the stored numbers under the stored flag
 unfoldable pub undone_by : Side → Undo → List ℕ → List ℕ
-undone_by side u gs = map (adjust u.mode (number side (some u))) gs
+undone_by side u gs = map (adjust u.mode (number side (Some u))) gs
 
 unfoldable pub steps : Side → List Level → List ℤ
 steps side [] = []
@@ -141,25 +141,25 @@ AllOf m (c ∷ cs) = (c.mode ≡ m) × AllOf m cs
 -- each call of the list is fair where it stands
 abbrev pub Chain : Option Undo → List Level → Type 0
 Chain o [] = Unit {0}
-Chain o (c ∷ cs) = Fair o c × Chain (some (booked_by o c)) cs
+Chain o (c ∷ cs) = Fair o c × Chain (Some (booked_by o c)) cs
 
 unfoldable pub perform : Desk → List Level → Desk
 perform d [] = d
 perform d (c ∷ cs) = perform (level_desk d c) cs
 
-follow : (u : Undo) (cs : List Level) → Chain (some u) cs → AllOf u.mode cs
+follow : (u : Undo) (cs : List Level) → Chain (Some u) cs → AllOf u.mode cs
 unfolding AllOf booked_by
 follow u [] k = tt
 follow u (c ∷ cs) (f, k) =
     let e : c.mode ≡ u.mode = f.agreed in
-    (e, subst (λ m. AllOf m cs) e (follow (booked_by (some u) c) cs k))
+    (e, subst (λ m. AllOf m cs) e (follow (booked_by (Some u) c) cs k))
 
 -- ---- what the accepted calls leave
 
 minus-sum : (u s t : ℤ) → (u -ℤ s) -ℤ t ≡ u -ℤ (s +ℤ t)
 minus-sum u s t = +ℤ_assoc u (neg_ℤ s) (neg_ℤ t) ∙ ap (λ z. u +ℤ z) (sym (neg_ℤ-+ℤ s t))
 
-number-booked : (side : Side) (o : Option Undo) (c : Level) → number side (some (booked_by o c)) ≡ accumulate side o c
+number-booked : (side : Side) (o : Option Undo) (c : Level) → number side (Some (booked_by o c)) ≡ accumulate side o c
 unfolding booked_by
 number-booked on_left o c = refl
 number-booked on_right o c = refl
@@ -183,7 +183,7 @@ gains-are side m d [] k = refl
 gains-are side m d (c ∷ cs) (e, k) = gains-are side m (level_desk d c) cs k ∙ rw (gains-level, e)
 
 -- the stored item has the calls' mode
-item : (m : GainMode) (d : Desk) (c : Level) (cs : List Level) → AllOf m (c ∷ cs) → (u : Undo) × ((perform d (c ∷ cs)).stored ≡ some u) × (u.mode ≡ m)
+item : (m : GainMode) (d : Desk) (c : Level) (cs : List Level) → AllOf m (c ∷ cs) → (u : Undo) × ((perform d (c ∷ cs)).stored ≡ Some u) × (u.mode ≡ m)
 unfolding perform AllOf level_desk booked_by
 item m d c [] (e, k) = (booked_by d.stored c, refl, e)
 item m d c (c' ∷ cs) (e, k) = item m (level_desk d c) c' cs k
@@ -193,15 +193,15 @@ pub record Reversed (d₀ d : Desk) (acc : List Level) : Type 0 where
   pub mode : GainMode
   pub one-mode : AllOf mode acc
   pub undo : Undo
-  pub item : d.stored ≡ some undo
+  pub item : d.stored ≡ Some undo
   pub gone : (side : Side) → undone_by side undo (gains side d) ≡ back_all mode (steps side acc) (gains side d₀)
 
 undone-back : (side : Side) (u : Undo) (m : GainMode) (ss : List ℤ) (gs hs : List ℕ) →
-    u.mode ≡ m → number side (some u) ≡ neg_ℤ (sum ss) → hs ≡ after_all m ss gs → undone_by side u hs ≡ back_all m ss gs
+    u.mode ≡ m → number side (Some u) ≡ neg_ℤ (sum ss) → hs ≡ after_all m ss gs → undone_by side u hs ≡ back_all m ss gs
 unfolding undone_by back_all
 undone-back side u m ss gs hs e n p = rw (n, e, p)
 
-pub performed : (d₀ : Desk) (acc : List Level) → d₀.stored ≡ none → Chain d₀.stored acc → ¬ (acc ≡ []) → Reversed d₀ (perform d₀ acc) acc
+pub performed : (d₀ : Desk) (acc : List Level) → d₀.stored ≡ None → Chain d₀.stored acc → ¬ (acc ≡ []) → Reversed d₀ (perform d₀ acc) acc
 unfolding AllOf booked_by
 performed d₀ [] z k some-accepted = absurd (some-accepted refl)
 performed d₀ (c ∷ cs) z k some-accepted =
@@ -209,7 +209,7 @@ performed d₀ (c ∷ cs) z k some-accepted =
     let a : AllOf m (c ∷ cs) = (refl, follow (booked_by d₀.stored c) cs k.1) in
     let (u, s, e) = item m d₀ c cs a in
     let o : (side : Side) → number side d₀.stored ≡ pos 0 = λ side. ap (number side) z in
-    let n : (side : Side) → number side (some u) ≡ neg_ℤ (sum (steps side (c ∷ cs)))
+    let n : (side : Side) → number side (Some u) ≡ neg_ℤ (sum (steps side (c ∷ cs)))
     = λ side. ap (number side) (sym s) ∙ numbers side d₀ (c ∷ cs) k ∙ ap (λ x. x -ℤ sum (steps side (c ∷ cs))) (o side) ∙ +ℤ_idl _ in
     record {
       mode = m;

@@ -3,7 +3,7 @@ use Prim.Native.Nat.{ℕ, suc, ◌+◌, ◌-◌, ◌*◌, ◌≤◌, ◌<◌}
 use native.Mathlib.Omega.{arith}
 use mathlib.Core.Path.{◌≡◌, refl, sym, ap, ◌∙◌}
 use mathlib.Core.Bool.{Bool, true, false, not, ◌&&◌, ◌||◌, cond, and-eq-true_iff}
-use mathlib.Core.Option.{Option, none, some, map}
+use Rattle.std.specs.Prelude.{Option, None, Some, option_map, Ok, Err}
 use mathlib.Core.List.{List, [], ◌∷◌, ◌++◌}
 use lib.ListN.{length, drop}
 use lib.Seq.{drop-append_seam}
@@ -16,12 +16,11 @@ use Rattle.number.specs.Fields.{before, behind}
 use Rattle.number.specs.Reading.{is_digit, digits_from, natural, is_minus, unsigned, with_sign, whole}
 use Rattle.decimal.specs.Writing.{decimal, signed}
 use Rattle.decimal.proofs.ReadBack.{digits-at-most, whole-signed}
-use Rattle.slip.specs.declared.SlipMode.{SlipMode}
+use Rattle.frame.specs.declared.GainMode.{GainMode}
 use Rattle.replies.specs.declared.Refusal.TheVariants.{StepOutOfRange, MalformedSlip}
 use Rattle.replies.specs.Refusal.{need, refusal_of}
 use Rattle.slip.specs.Slip.{step_text, step_line, mode_line, lines_form, slip_form, is_step, in_range, read_slip}
 use Rattle.slip.specs.declared.Wish.{Wish}
-use Rattle.slip.specs.declared.Slip.TheVariants.{Steps, Refused}
 
 -- ---- lines end at the first LF
 
@@ -36,7 +35,7 @@ unfolding before all clear
 before-clear [] t e = refl
 before-clear (x ∷ s) t e = let (p, q) = keep_apart x (clear s) e in rw p (ap (λ r. x ∷ r) (before-clear s t q))
 
-behind-clear : (s t : List ℕ) → clear s ≡ true → behind 10 (s ++ (10 ∷ t)) ≡ some t
+behind-clear : (s t : List ℕ) → clear s ≡ true → behind 10 (s ++ (10 ∷ t)) ≡ Some t
 unfolding behind all clear
 behind-clear [] t e = refl
 behind-clear (x ∷ s) t e = let (p, q) = keep_apart x (clear s) e in rw p (behind-clear s t q)
@@ -47,12 +46,12 @@ clear-append [] b e f = f
 clear-append (x ∷ a) b e f = let (p, q) = keep_apart x (clear a) e in rw p (clear-append a b q f)
 
 -- the other way: the line, the LF and the rest are the whole
-whole-cut : (s t : List ℕ) → behind 10 s ≡ some t → s ≡ before 10 s ++ (10 ∷ t)
+whole-cut : (s t : List ℕ) → behind 10 s ≡ Some t → s ≡ before 10 s ++ (10 ∷ t)
 unfolding before behind
 whole-cut [] t e = cc
 whole-cut (x ∷ s) t e = go (eqb x 10) refl e (whole-cut s t)
   where
-    go : (b : Bool) → eqb x 10 ≡ b → cond b (some s) (behind 10 s) ≡ some t → (behind 10 s ≡ some t → s ≡ before 10 s ++ (10 ∷ t))
+    go : (b : Bool) → eqb x 10 ≡ b → cond b (Some s) (behind 10 s) ≡ Some t → (behind 10 s ≡ Some t → s ≡ before 10 s ++ (10 ∷ t))
         → x ∷ s ≡ cond b [] (x ∷ before 10 s) ++ (10 ∷ t)
     go true u e i = let h : x ≡ 10 = eqb-true x 10 u in let q : s ≡ t = cc in cc
     go false u e i = ap (λ r. x ∷ r) (i e)
@@ -78,11 +77,11 @@ line-back : (name a : List ℕ) → step_line name (name ++ a) ≡ step_text a
 unfolding step_line
 line-back name a = rw (starts-self name a, drop-append_seam name a)
 
-line-only : (name line : List ℕ) (z : ℤ) → step_line name line ≡ some z → (line ≡ name ++ drop (length name) line) × (step_text (drop (length name) line) ≡ some z)
+line-only : (name line : List ℕ) (z : ℤ) → step_line name line ≡ Some z → (line ≡ name ++ drop (length name) line) × (step_text (drop (length name) line) ≡ Some z)
 unfolding step_line
 line-only name line z e = go (starts_with name line) refl e
   where
-    go : (b : Bool) → starts_with name line ≡ b → cond b (step_text (drop (length name) line)) none ≡ some z → (line ≡ name ++ drop (length name) line) × (step_text (drop (length name) line) ≡ some z)
+    go : (b : Bool) → starts_with name line ≡ b → cond b (step_text (drop (length name) line)) None ≡ Some z → (line ≡ name ++ drop (length name) line) × (step_text (drop (length name) line) ≡ Some z)
     go true u e = (starts-cut name line u, e)
     go false u e = absurd (let y : ◌≡◌ {A = ℕ} 0 1 = cc in omega arith)
 
@@ -92,17 +91,17 @@ digit_clear : (x : ℕ) → is_digit x ≡ true → eqb x 10 ≡ false
 unfolding is_digit
 digit_clear x e = ne_eqb x 10 (λ q. absurd (omega (arith, leb-true 48 x ((and-eq-true_iff (leb 48 x) (leb x 57)).0 e).0, q)))
 
-digits-clear : (s : List ℕ) (n m : ℕ) → digits_from n s ≡ some m → clear s ≡ true
+digits-clear : (s : List ℕ) (n m : ℕ) → digits_from n s ≡ Some m → clear s ≡ true
 unfolding digits_from all clear
 digits-clear [] n m e = refl
 digits-clear (x ∷ s) n m e = go (is_digit x) refl e (digits-clear s (10 * n + (x - 48)) m)
   where
-    go : (t : Bool) → is_digit x ≡ t → cond t (digits_from (10 * n + (x - 48)) s) none ≡ some m → (digits_from (10 * n + (x - 48)) s ≡ some m → clear s ≡ true)
+    go : (t : Bool) → is_digit x ≡ t → cond t (digits_from (10 * n + (x - 48)) s) None ≡ Some m → (digits_from (10 * n + (x - 48)) s ≡ Some m → clear s ≡ true)
         → (not (eqb x 10) && clear s) ≡ true
     go true u e f = rw (digit_clear x u) (f e)
     go false u e f = absurd (let z : ◌≡◌ {A = ℕ} 0 1 = cc in omega arith)
 
-natural-clear : (s : List ℕ) (m : ℕ) → natural s ≡ some m → clear s ≡ true
+natural-clear : (s : List ℕ) (m : ℕ) → natural s ≡ Some m → clear s ≡ true
 unfolding natural
 natural-clear [] m e = absurd (let z : ◌≡◌ {A = ℕ} 0 1 = cc in omega arith)
 natural-clear (x ∷ s) m e = digits-clear (x ∷ s) 0 m e
@@ -120,21 +119,21 @@ sign_clear (x ∷ s) e = plus (eqb x 43) refl e
     plus true u e = rw (ne_eqb x 10 (λ q. absurd (omega (arith, eqb-true x 43 u, q)))) e
     plus false u e = minus (eqb x 45) refl e
 
-step_clear : (s : List ℕ) (z : ℤ) → step_text s ≡ some z → clear s ≡ true
+step_clear : (s : List ℕ) (z : ℤ) → step_text s ≡ Some z → clear s ≡ true
 unfolding step_text whole
 step_clear s z e = long (leb (length (unsigned s)) 5) e
   where
-    number : (o : Option ℕ) → natural (unsigned s) ≡ o → map (with_sign (is_minus s)) o ≡ some z → clear s ≡ true
-    number none u e = absurd (let y : ◌≡◌ {A = ℕ} 0 1 = cc in omega arith)
-    number (some n) u e = sign_clear s (natural-clear (unsigned s) n u)
+    number : (o : Option ℕ) → natural (unsigned s) ≡ o → option_map (with_sign (is_minus s)) o ≡ Some z → clear s ≡ true
+    number None u e = absurd (let y : ◌≡◌ {A = ℕ} 0 1 = cc in omega arith)
+    number (Some n) u e = sign_clear s (natural-clear (unsigned s) n u)
 
-    long : (b : Bool) → cond b (map (with_sign (is_minus s)) (natural (unsigned s))) none ≡ some z → clear s ≡ true
+    long : (b : Bool) → cond b (option_map (with_sign (is_minus s)) (natural (unsigned s))) None ≡ Some z → clear s ≡ true
     long true e = number (natural (unsigned s)) refl e
     long false e = absurd (let y : ◌≡◌ {A = ℕ} 0 1 = cc in omega arith)
 
 -- ---- both ways
 
-some_is : {A : Type 0} {a b : A} → some a ≡ some b → a ≡ b
+some_is : {A : Type 0} {a b : A} → Some a ≡ Some b → a ≡ b
 some_is e = cc
 
 -- the text of two numbers and what follows them
@@ -147,9 +146,9 @@ pub record Written (s : List ℕ) (w : Wish) : Type 0 where
   pub second : List ℕ
   pub rest : List ℕ
   pub is : s ≡ slip_text first second rest
-  pub left : step_text first ≡ some w.left.0
-  pub right : step_text second ≡ some w.right.0
-  pub mode : mode_line rest ≡ some w.mode
+  pub left : step_text first ≡ Some w.left.0
+  pub right : step_text second ≡ Some w.right.0
+  pub mode : mode_line rest ≡ Some w.mode
 
 left-clear : clear (ascii "left=") ≡ true
 unfolding all clear
@@ -160,7 +159,7 @@ unfolding all clear
 right-clear = refl
 
 -- every slip that the format allows is read
-pub slip-back : (s : List ℕ) (w : Wish) → Written s w → slip_form s ≡ some w
+pub slip-back : (s : List ℕ) (w : Wish) → Written s w → slip_form s ≡ Some w
 unfolding slip_form lines_form slip_text
 slip-back s w h =
     let a = h.first in
@@ -182,12 +181,12 @@ slip-back s w h =
     )
 
 -- and nothing else is
-pub slip-only : (s : List ℕ) (w : Wish) → slip_form s ≡ some w → Written s w
+pub slip-only : (s : List ℕ) (w : Wish) → slip_form s ≡ Some w → Written s w
 unfolding slip_form lines_form slip_text
 slip-only s w e = cut (behind 10 s) refl e
   where
-    build : (t u : List ℕ) (l r : ℤ) (m : SlipMode) → behind 10 s ≡ some t → behind 10 t ≡ some u
-        → step_line (ascii "left=") (before 10 s) ≡ some l → step_line (ascii "right=") (before 10 t) ≡ some r → mode_line u ≡ some m
+    build : (t u : List ℕ) (l r : ℤ) (m : Option GainMode) → behind 10 s ≡ Some t → behind 10 t ≡ Some u
+        → step_line (ascii "left=") (before 10 s) ≡ Some l → step_line (ascii "right=") (before 10 t) ≡ Some r → mode_line u ≡ Some m
         → Written s (record { left = record { 0 = l }; right = record { 0 = r }; mode = m })
     build t u l r m es et el er em =
         let (nl, vl) = line-only (ascii "left=") (before 10 s) l el in
@@ -207,36 +206,36 @@ slip-only s w e = cut (behind 10 s) refl e
           mode = em;
         }
 
-    modes : (t u : List ℕ) (l r : ℤ) (o : Option SlipMode) → behind 10 s ≡ some t → behind 10 t ≡ some u
-        → step_line (ascii "left=") (before 10 s) ≡ some l → step_line (ascii "right=") (before 10 t) ≡ some r → mode_line u ≡ o
-        → map (λ m. record { left = record { 0 = l }; right = record { 0 = r }; mode = m }) o ≡ some w → Written s w
-    modes t u l r none es et el er em e = absurd (let z : ◌≡◌ {A = ℕ} 0 1 = cc in omega arith)
-    modes t u l r (some m) es et el er em e =
+    modes : (t u : List ℕ) (l r : ℤ) (o : Option (Option GainMode)) → behind 10 s ≡ Some t → behind 10 t ≡ Some u
+        → step_line (ascii "left=") (before 10 s) ≡ Some l → step_line (ascii "right=") (before 10 t) ≡ Some r → mode_line u ≡ o
+        → option_map (λ m. record { left = record { 0 = l }; right = record { 0 = r }; mode = m }) o ≡ Some w → Written s w
+    modes t u l r None es et el er em e = absurd (let z : ◌≡◌ {A = ℕ} 0 1 = cc in omega arith)
+    modes t u l r (Some m) es et el er em e =
         let q : ◌≡◌ {A = Wish} (record { left = record { 0 = l }; right = record { 0 = r }; mode = m }) w = some_is e in
         rw (← q) (build t u l r m es et el er em)
 
-    rights : (t u : List ℕ) (l : ℤ) (o : Option ℤ) → behind 10 s ≡ some t → behind 10 t ≡ some u
-        → step_line (ascii "left=") (before 10 s) ≡ some l → step_line (ascii "right=") (before 10 t) ≡ o
-        → found o none (λ r. map (λ m. record { left = record { 0 = l }; right = record { 0 = r }; mode = m }) (mode_line u)) ≡ some w → Written s w
-    rights t u l none es et el er e = absurd (let z : ◌≡◌ {A = ℕ} 0 1 = cc in omega arith)
-    rights t u l (some r) es et el er e = modes t u l r (mode_line u) es et el er refl e
+    rights : (t u : List ℕ) (l : ℤ) (o : Option ℤ) → behind 10 s ≡ Some t → behind 10 t ≡ Some u
+        → step_line (ascii "left=") (before 10 s) ≡ Some l → step_line (ascii "right=") (before 10 t) ≡ o
+        → found o None (λ r. option_map (λ m. record { left = record { 0 = l }; right = record { 0 = r }; mode = m }) (mode_line u)) ≡ Some w → Written s w
+    rights t u l None es et el er e = absurd (let z : ◌≡◌ {A = ℕ} 0 1 = cc in omega arith)
+    rights t u l (Some r) es et el er e = modes t u l r (mode_line u) es et el er refl e
 
-    lefts : (t u : List ℕ) (o : Option ℤ) → behind 10 s ≡ some t → behind 10 t ≡ some u → step_line (ascii "left=") (before 10 s) ≡ o
-        → found o none (λ l. found (step_line (ascii "right=") (before 10 t)) none (λ r. map (λ m. record { left = record { 0 = l }; right = record { 0 = r }; mode = m }) (mode_line u))) ≡ some w
+    lefts : (t u : List ℕ) (o : Option ℤ) → behind 10 s ≡ Some t → behind 10 t ≡ Some u → step_line (ascii "left=") (before 10 s) ≡ o
+        → found o None (λ l. found (step_line (ascii "right=") (before 10 t)) None (λ r. option_map (λ m. record { left = record { 0 = l }; right = record { 0 = r }; mode = m }) (mode_line u))) ≡ Some w
         → Written s w
-    lefts t u none es et el e = absurd (let z : ◌≡◌ {A = ℕ} 0 1 = cc in omega arith)
-    lefts t u (some l) es et el e = rights t u l (step_line (ascii "right=") (before 10 t)) es et el refl e
+    lefts t u None es et el e = absurd (let z : ◌≡◌ {A = ℕ} 0 1 = cc in omega arith)
+    lefts t u (Some l) es et el e = rights t u l (step_line (ascii "right=") (before 10 t)) es et el refl e
 
-    again : (t : List ℕ) (o : Option (List ℕ)) → behind 10 s ≡ some t → behind 10 t ≡ o → found o none (λ u. lines_form (before 10 s) (before 10 t) u) ≡ some w → Written s w
-    again t none es et e = absurd (let z : ◌≡◌ {A = ℕ} 0 1 = cc in omega arith)
-    again t (some u) es et e = lefts t u (step_line (ascii "left=") (before 10 s)) es et refl e
+    again : (t : List ℕ) (o : Option (List ℕ)) → behind 10 s ≡ Some t → behind 10 t ≡ o → found o None (λ u. lines_form (before 10 s) (before 10 t) u) ≡ Some w → Written s w
+    again t None es et e = absurd (let z : ◌≡◌ {A = ℕ} 0 1 = cc in omega arith)
+    again t (Some u) es et e = lefts t u (step_line (ascii "left=") (before 10 s)) es et refl e
 
-    cut : (o : Option (List ℕ)) → behind 10 s ≡ o → found o none (λ t. found (behind 10 t) none (λ u. lines_form (before 10 s) (before 10 t) u)) ≡ some w → Written s w
-    cut none es e = absurd (let z : ◌≡◌ {A = ℕ} 0 1 = cc in omega arith)
-    cut (some t) es e = again t (behind 10 t) es refl e
+    cut : (o : Option (List ℕ)) → behind 10 s ≡ o → found o None (λ t. found (behind 10 t) None (λ u. lines_form (before 10 s) (before 10 t) u)) ≡ Some w → Written s w
+    cut None es e = absurd (let z : ◌≡◌ {A = ℕ} 0 1 = cc in omega arith)
+    cut (Some t) es e = again t (behind 10 t) es refl e
 
 -- numbers of five digits, as they are written elsewhere, are read
-pub step_back : (z : ℤ) → nat_abs z < 100000 → step_text (signed z) ≡ some z
+pub step_back : (z : ℤ) → nat_abs z < 100000 → step_text (signed z) ≡ Some z
 unfolding step_text signed unsigned
 step_back (pos n) h = rw (le-leb (length (decimal 3 7 n)) 5 (digits-at-most 5 3 7 n (omega arith) h)) (whole-signed (pos n) (omega arith))
 step_back (negsuc n) h = rw (le-leb (length (decimal 3 7 (suc n))) 5 (digits-at-most 5 3 7 (suc n) (omega arith) h)) (whole-signed (negsuc n) (omega arith))
@@ -244,23 +243,23 @@ step_back (negsuc n) h = rw (le-leb (length (decimal 3 7 (suc n))) 5 (digits-at-
 -- ---- the answers
 
 -- 13 exactly for a bad form
-pub answer-malformed : (s : List ℕ) → slip_form s ≡ none → read_slip s ≡ Refused MalformedSlip
+pub answer-malformed : (s : List ℕ) → slip_form s ≡ None → read_slip s ≡ Err MalformedSlip
 answer-malformed s e = rw e
 
 -- 2 exactly for a good form with a number out of range, and else the steps
-pub answer-good : (s : List ℕ) (w : Wish) → slip_form s ≡ some w → read_slip s ≡ cond (in_range w) (Steps w) (Refused StepOutOfRange)
+pub answer-good : (s : List ℕ) (w : Wish) → slip_form s ≡ Some w → read_slip s ≡ cond (in_range w) (Ok w) (Err StepOutOfRange)
 answer-good s w e = rw e (go (is_step w.left.0) (is_step w.right.0))
   where
-    go : (a b : Bool) → found (refusal_of (need MalformedSlip true ∷ need StepOutOfRange (a && b) ∷ [])) (Steps w) (λ r. Refused r) ≡ cond (a && b) (Steps w) (Refused StepOutOfRange)
+    go : (a b : Bool) → found (refusal_of (need MalformedSlip true ∷ need StepOutOfRange (a && b) ∷ [])) (Ok w) (λ r. Err r) ≡ cond (a && b) (Ok w) (Err StepOutOfRange)
     go true true = refl
     go true false = refl
     go false b = refl
 
 -- an accepted slip's steps are in range
-pub slip-steps : (s : List ℕ) (w : Wish) → read_slip s ≡ Steps w → (nat_abs w.left.0 ≤ 255) × (nat_abs w.right.0 ≤ 255)
+pub slip-steps : (s : List ℕ) (w : Wish) → read_slip s ≡ Ok w → (nat_abs w.left.0 ≤ 255) × (nat_abs w.right.0 ≤ 255)
 slip-steps s w e = go (slip_form s) refl
   where
-    judged : (v : Wish) (a b : Bool) → is_step v.left.0 ≡ a → is_step v.right.0 ≡ b → cond (a && b) (Steps v) (Refused StepOutOfRange) ≡ Steps w
+    judged : (v : Wish) (a b : Bool) → is_step v.left.0 ≡ a → is_step v.right.0 ≡ b → cond (a && b) (Ok v) (Err StepOutOfRange) ≡ Ok w
         → (nat_abs w.left.0 ≤ 255) × (nat_abs w.right.0 ≤ 255)
     judged v true true p q e =
         let h : v ≡ w = cc in
@@ -269,5 +268,5 @@ slip-steps s w e = go (slip_form s) refl
     judged v false b p q e = absurd (let z : ◌≡◌ {A = ℕ} 0 1 = cc in omega arith)
 
     go : (o : Option Wish) → slip_form s ≡ o → (nat_abs w.left.0 ≤ 255) × (nat_abs w.right.0 ≤ 255)
-    go none f = let h : Refused MalformedSlip ≡ Steps w = sym (answer-malformed s f) ∙ e in absurd (let z : ◌≡◌ {A = ℕ} 0 1 = cc in omega arith)
-    go (some v) f = judged v (is_step v.left.0) (is_step v.right.0) refl refl (sym (answer-good s v f) ∙ e)
+    go None f = let h : Err MalformedSlip ≡ Ok w = sym (answer-malformed s f) ∙ e in absurd (let z : ◌≡◌ {A = ℕ} 0 1 = cc in omega arith)
+    go (Some v) f = judged v (is_step v.left.0) (is_step v.right.0) refl refl (sym (answer-good s v f) ∙ e)

@@ -3,7 +3,7 @@ use Prim.Native.Nat.{ℕ, zero, suc, ◌-◌, ◌≤◌, ◌<◌}
 use native.Mathlib.Omega.{arith}
 use mathlib.Core.Path.{◌≡◌, refl, sym, ap, ◌∙◌}
 use mathlib.Core.Bool.{Bool, true, false}
-use mathlib.Core.Option.{Option, none, some, map}
+use Rattle.std.specs.Prelude.{Option, None, Some, option_map}
 use mathlib.Core.List.{List}
 use lib.ListN.{length, take, drop, length-drop}
 use lib.Dec.{ltb}
@@ -35,9 +35,9 @@ pub five-fit : (s : List ℕ) → length (unsigned s) ≤ 5 → provided is_i32 
 unfolding whole
 five-fit s h = go (natural (unsigned s)) refl
   where
-    go : (o : Option ℕ) → natural (unsigned s) ≡ o → provided is_i32 (map (with_sign (is_minus s)) o) ≡ map (with_sign (is_minus s)) o
-    go none e = refl
-    go (some n) e = rw (small-sign (is_minus s) n (natural-below (unsigned s) n 5 h e))
+    go : (o : Option ℕ) → natural (unsigned s) ≡ o → provided is_i32 (option_map (with_sign (is_minus s)) o) ≡ option_map (with_sign (is_minus s)) o
+    go None e = refl
+    go (Some n) e = rw (small-sign (is_minus s) n (natural-below (unsigned s) n 5 h e))
 
 -- how many bytes are left behind a name of k bytes and a sign
 pub digits-left : (line : List ℕ) (k sign : ℕ) → drop sign (take (length line - k) (drop k line)) ≡ unsigned (take (length line - k) (drop k line))

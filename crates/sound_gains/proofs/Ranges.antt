@@ -1,41 +1,21 @@
 -- Laws of the range of gains: field by field, frame by frame, and side by side.
-use Prim.Native.Nat.{ℕ, ◌+◌, ◌*◌, ◌≤◌, min, max}
+use Prim.Native.Nat.{ℕ, suc, ◌+◌, ◌*◌, ◌≤◌, min, max}
 use native.Mathlib.Omega.{arith}
 use mathlib.Core.Path.{◌≡◌, refl, sym, ap, ◌∙◌}
 use mathlib.Core.Bool.{Bool, true, false, ◌||◌}
 use mathlib.Core.List.{List, [], ◌∷◌, ◌++◌, map}
 use lib.ListN.{length}
 use Rattle.layer3.specs.declared.Frame.{Frame}
-use Rattle.layer3.specs.declared.Header.TheVariants.{Valid}
+use Rattle.std.specs.Prelude.{Some}
 use Rattle.layer3.specs.Bits.{read_bits}
-use Rattle.layer3.specs.Fields.{Field, left, right, side_start, before_granules, channel_bits, before_gain, fields_from, read_left, read_right, moved_gains}
+use Rattle.layer3.specs.Fields.{Field, left, right, fields_from, read_left, read_right, moved_gains}
 use Rattle.layer3.specs.Walk.{frame_at, walk, fields_of, any_frame, any_checksum}
 use Rattle.layer3.proofs.Fields.{gains-append}
 use Rattle.layer3.proofs.Walk.{walk_end, walk-frame}
-use Rattle.layer3.proofs.Places.{list_of, fields-are}
+use Rattle.layer3.proofs.Places.{granules}
 use Rattle.calls.specs.Calls.{least, greatest}
 use Rattle.sound_gains.specs.declared.Progress.{Progress}
 use Rattle.sound_gains.specs.Scan.{frames_found, checksum_found, least_found, greatest_found}
-
--- ---- one gain after another
-
-unfoldable pub lower : ℕ → List ℕ → ℕ
-lower x [] = x
-lower x (g ∷ gs) = lower (min x g) gs
-
-unfoldable pub higher : ℕ → List ℕ → ℕ
-higher x [] = x
-higher x (g ∷ gs) = higher (max x g) gs
-
-pub lower-is : (x : ℕ) (gs : List ℕ) → x ≤ 255 → lower x gs ≡ min x (least gs)
-unfolding lower least
-lower-is x [] h = omega arith
-lower-is x (g ∷ gs) h = lower-is (min x g) gs (omega arith) ∙ (let n = least gs in omega arith)
-
-pub higher-is : (x : ℕ) (gs : List ℕ) → higher x gs ≡ max x (greatest gs)
-unfolding higher greatest
-higher-is x [] = omega arith
-higher-is x (g ∷ gs) = higher-is (max x g) gs ∙ (let n = greatest gs in omega arith)
 
 -- beside the greatest byte
 pub least-all : (gs : List ℕ) → min 255 (least gs) ≡ least gs
@@ -75,30 +55,33 @@ module _ (f g : ℕ → ℕ) where
       go (left o ∷ fs) = let e = go fs in omega arith
       go (right o ∷ fs) = let e = go fs in omega arith
 
--- ---- the fields of a frame, by the tests of the code
+-- ---- one granule of a frame
 
-module _ (at : ℕ) (h : Frame) (bit next : ℕ) (first-is : bit ≡ 8 * at + (side_start h + before_granules h + before_gain)) (next-is : next ≡ channel_bits h) (f g : ℕ → ℕ) (s : List ℕ) where
-  pub gains-mono-two : h.mono ≡ true → h.mpeg1 ≡ true → moved_gains f g (fields_from (8 * at) h) s ≡ f (read_bits s bit) ∷ f (read_bits s (bit + next)) ∷ []
-  unfolding list_of moved_gains
-  gains-mono-two m e = rw (fields-are at h bit next first-is next-is, m, e)
+module _ (k j bit next : ℕ) (mono : Bool) (more : k ≡ suc j) (f g : ℕ → ℕ) (s : List ℕ) where
+  module _ (e : mono ≡ true) where
+    pub least-one : least (moved_gains f g (granules k mono bit next) s) ≡ min (f (read_bits s bit)) (least (moved_gains f g (granules j mono (bit + next) next) s))
+    unfolding granules moved_gains least
+    least-one = rw (more, e)
 
-  pub gains-mono-one : h.mono ≡ true → h.mpeg1 ≡ false → moved_gains f g (fields_from (8 * at) h) s ≡ f (read_bits s bit) ∷ []
-  unfolding list_of moved_gains
-  gains-mono-one m e = rw (fields-are at h bit next first-is next-is, m, e)
+    pub greatest-one : greatest (moved_gains f g (granules k mono bit next) s) ≡ max (f (read_bits s bit)) (greatest (moved_gains f g (granules j mono (bit + next) next) s))
+    unfolding granules moved_gains greatest
+    greatest-one = rw (more, e)
 
-  pub gains-stereo-two : h.mono ≡ false → h.mpeg1 ≡ true → moved_gains f g (fields_from (8 * at) h) s
-      ≡ f (read_bits s bit) ∷ g (read_bits s (bit + next)) ∷ f (read_bits s (bit + 2 * next)) ∷ g (read_bits s (bit + 3 * next)) ∷ []
-  unfolding list_of moved_gains
-  gains-stereo-two m e = rw (fields-are at h bit next first-is next-is, m, e)
+  module _ (e : mono ≡ false) where
+    pub least-two : least (moved_gains f g (granules k mono bit next) s)
+        ≡ min (f (read_bits s bit)) (min (g (read_bits s (bit + next))) (least (moved_gains f g (granules j mono (bit + next + next) next) s)))
+    unfolding granules moved_gains least
+    least-two = rw (more, e)
 
-  pub gains-stereo-one : h.mono ≡ false → h.mpeg1 ≡ false → moved_gains f g (fields_from (8 * at) h) s ≡ f (read_bits s bit) ∷ g (read_bits s (bit + next)) ∷ []
-  unfolding list_of moved_gains
-  gains-stereo-one m e = rw (fields-are at h bit next first-is next-is, m, e)
+    pub greatest-two : greatest (moved_gains f g (granules k mono bit next) s)
+        ≡ max (f (read_bits s bit)) (max (g (read_bits s (bit + next))) (greatest (moved_gains f g (granules j mono (bit + next + next) next) s)))
+    unfolding granules moved_gains greatest
+    greatest-two = rw (more, e)
 
 -- ---- one step of the walk
 
 module _ (s : List ℕ) (at : ℕ) where
-  module _ (h : Frame) (e : frame_at s at ≡ Valid h) where
+  module _ (h : Frame) (e : frame_at s at ≡ Some h) where
     pub scan-frame : (t : Bool) → (t || any_frame (walk (length s) s at)) ≡ true
     scan-frame true = refl
     scan-frame false = rw (walk-frame s at h e)
@@ -127,37 +110,6 @@ module _ (s : List ℕ) (at : ℕ) where
           let r : greatest (moved_gains f g (fields_of (walk (length s) s at)) s) ≡ _ = ap greatest gains-over ∙ p in
           omega (arith, q, r)
 
--- ---- one, two or four gains
-
-module _ (x : ℕ) (gs : List ℕ) (p : ℕ) where
-  pub low-1 : {a : ℕ} → a ≡ min x p → gs ≡ p ∷ [] → x ≤ 255 → a ≡ min x (least gs)
-  unfolding lower
-  low-1 {a} u e h = u ∙ lower-is x (p ∷ []) h ∙ ap (λ (l : List ℕ). min x (least l)) (sym e)
-
-  pub high-1 : {a : ℕ} → a ≡ max x p → gs ≡ p ∷ [] → a ≡ max x (greatest gs)
-  unfolding higher
-  high-1 {a} u e = u ∙ higher-is x (p ∷ []) ∙ ap (λ (l : List ℕ). max x (greatest l)) (sym e)
-
-  module _ (q : ℕ) where
-    pub low-2 : {a b : ℕ} → a ≡ min x p → b ≡ min a q → gs ≡ p ∷ q ∷ [] → x ≤ 255 → b ≡ min x (least gs)
-    unfolding lower
-    low-2 {a} {b} u v e h = v ∙ ap (λ (n : ℕ). min n q) u ∙ lower-is x (p ∷ q ∷ []) h ∙ ap (λ (l : List ℕ). min x (least l)) (sym e)
-
-    pub high-2 : {a b : ℕ} → a ≡ max x p → b ≡ max a q → gs ≡ p ∷ q ∷ [] → b ≡ max x (greatest gs)
-    unfolding higher
-    high-2 {a} {b} u v e = v ∙ ap (λ (n : ℕ). max n q) u ∙ higher-is x (p ∷ q ∷ []) ∙ ap (λ (l : List ℕ). max x (greatest l)) (sym e)
-
-    module _ (r t : ℕ) where
-      pub low-4 : {a b c d : ℕ} → a ≡ min x p → b ≡ min a q → c ≡ min b r → d ≡ min c t → gs ≡ p ∷ q ∷ r ∷ t ∷ [] → x ≤ 255 → d ≡ min x (least gs)
-      unfolding lower
-      low-4 {a} {b} {c} {d} u v w z e h =
-          z ∙ ap (λ (n : ℕ). min n t) (w ∙ ap (λ (n : ℕ). min n r) (v ∙ ap (λ (n : ℕ). min n q) u)) ∙ lower-is x (p ∷ q ∷ r ∷ t ∷ []) h ∙ ap (λ (l : List ℕ). min x (least l)) (sym e)
-
-      pub high-4 : {a b c d : ℕ} → a ≡ max x p → b ≡ max a q → c ≡ max b r → d ≡ max c t → gs ≡ p ∷ q ∷ r ∷ t ∷ [] → d ≡ max x (greatest gs)
-      unfolding higher
-      high-4 {a} {b} {c} {d} u v w z e =
-          z ∙ ap (λ (n : ℕ). max n t) (w ∙ ap (λ (n : ℕ). max n r) (v ∙ ap (λ (n : ℕ). max n q) u)) ∙ higher-is x (p ∷ q ∷ r ∷ t ∷ []) ∙ ap (λ (l : List ℕ). max x (greatest l)) (sym e)
-
 -- ---- the end of a scan
 
 or-false : (t : Bool) → (t || false) ≡ t
@@ -168,17 +120,17 @@ module _ (f g : ℕ → ℕ) (s : List ℕ) (x : Progress) (ends : length s ≤ 
   none_left : walk (length s) s x.at ≡ []
   none_left = walk_end s x.at ends
 
-  pub end-frames : frames_found s x ≡ x.frames
-  end-frames = rw none_left (or-false x.frames)
+  pub end-frames : frames_found s x ≡ x.found.frames
+  end-frames = rw none_left (or-false x.found.frames)
 
-  pub end-checksum : checksum_found s x ≡ x.checksum
+  pub end-checksum : checksum_found s x ≡ x.found.checksum
   unfolding any_checksum
-  end-checksum = rw none_left (or-false x.checksum)
+  end-checksum = rw none_left (or-false x.found.checksum)
 
-  pub end-least : x.least ≤ 255 → least_found f g s x ≡ x.least
+  pub end-least : x.found.range.least ≤ 255 → least_found f g s x ≡ x.found.range.least
   unfolding fields_of moved_gains least
   end-least h = rw none_left (omega arith)
 
-  pub end-greatest : greatest_found f g s x ≡ x.greatest
+  pub end-greatest : greatest_found f g s x ≡ x.found.range.greatest
   unfolding fields_of moved_gains greatest
   end-greatest = rw none_left (omega arith)

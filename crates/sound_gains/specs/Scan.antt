@@ -19,16 +19,16 @@ scanned m l r s = record {
 
 -- a frame
 abbrev pub frames_found : List ℕ → Progress → Bool
-frames_found s x = x.frames || any_frame (walk (length s) s x.at)
+frames_found s x = x.found.frames || any_frame (walk (length s) s x.at)
 
 -- a frame with a checksum
 abbrev pub checksum_found : List ℕ → Progress → Bool
-checksum_found s x = x.checksum || any_checksum (walk (length s) s x.at)
+checksum_found s x = x.found.checksum || any_checksum (walk (length s) s x.at)
 
 -- the least gain, f and g being how a left and a right one move
 abbrev pub least_found : (ℕ → ℕ) → (ℕ → ℕ) → List ℕ → Progress → ℕ
-least_found f g s x = min x.least (least (moved_gains f g (fields_of (walk (length s) s x.at)) s))
+least_found f g s x = min x.found.range.least (least (moved_gains f g (fields_of (walk (length s) s x.at)) s))
 
 -- the greatest
 abbrev pub greatest_found : (ℕ → ℕ) → (ℕ → ℕ) → List ℕ → Progress → ℕ
-greatest_found f g s x = max x.greatest (greatest (moved_gains f g (fields_of (walk (length s) s x.at)) s))
+greatest_found f g s x = max x.found.range.greatest (greatest (moved_gains f g (fields_of (walk (length s) s x.at)) s))

@@ -3,7 +3,7 @@ use Prim.Native.Nat.{ℕ, ◌≤◌, ◌<◌}
 use native.Mathlib.Omega.{arith}
 use mathlib.Core.Path.{◌≡◌, refl, sym, ap, ◌∙◌}
 use mathlib.Core.Bool.{Bool, true, false}
-use mathlib.Core.Option.{Option, none, some}
+use Rattle.std.specs.Prelude.{Option, None, Some, Ok, Err}
 use mathlib.Core.List.{List, [], ◌∷◌, ◌++◌, append_assoc}
 use lib.ListN.{length, take, drop, length-append, length-drop}
 use lib.Seq.{length-take-le, take-append-le, drop-append-le, take-append_seam}
@@ -24,8 +24,7 @@ use Rattle.calls.specs.Gate.{items_of}
 use Rattle.calls.specs.Calls.{Level, Levelled, peaks_kept, adjusted, range_of, levelled_items, new_items, is_there, level_tests, level_gives}
 use Rattle.level_items.specs.Items.{undone_items, ranged_items}
 use Rattle.ape_write.specs.Answers.{written_bytes}
-use Rattle.level.specs.declared.LevelAnswer.{LevelAnswer}
-use Rattle.level.specs.declared.LevelAnswer.TheVariants.{Done, Refused}
+use Rattle.level.specs.declared.Leveled.{Leveled}
 use Rattle.level.specs.Answers.{filed_answer}
 use Rattle.sound_calls.specs.Sound.{audio_of, sound_left, sound_right, frame_tests, gains_written, sound_gives, level_sound_plan}
 use Rattle.sound_level.specs.Tagged.{tagged_items, tagged_tests, tagged_plan}
@@ -104,8 +103,8 @@ module _ (file : List ℕ) (l : Level) (room : ℕ) where
             sound-no {q} e = sound-is ∙ go (refusal_of (tagged_tests file l (new_items file (sound_left file) (sound_right file) l) room)) (sym plan-is ∙ e)
               where
                 go : (o : Option Refusal) → planned o (replaced file (new_items file (sound_left file) (sound_right file) l)) ≡ no q → planned o (sound_given file l) ≡ no q
-                go none e = absurd (let z : ◌≡◌ {A = ℕ} 0 1 = cc in omega arith)
-                go (some x) e = let z : x ≡ q = cc in ap no z
+                go None e = absurd (let z : ◌≡◌ {A = ℕ} 0 1 = cc in omega arith)
+                go (Some x) e = let z : x ≡ q = cc in ap no z
 
             pub sound-yes : {w : List ℕ} → tagged_plan file l range room ≡ yes w
                 → (level_sound_plan file l room ≡ yes (sound_given file l)) × (w ≡ replaced file (new_items file (sound_left file) (sound_right file) l))
@@ -115,18 +114,18 @@ module _ (file : List ℕ) (l : Level) (room : ℕ) where
               where
                 go : (o : Option Refusal) → planned o (replaced file (new_items file (sound_left file) (sound_right file) l)) ≡ yes w
                     → (planned o (sound_given file l) ≡ yes (sound_given file l)) × (w ≡ replaced file (new_items file (sound_left file) (sound_right file) l))
-                go none e = (refl, cc)
-                go (some x) e = absurd (let z : ◌≡◌ {A = ℕ} 0 1 = cc in omega arith)
+                go None e = (refl, cc)
+                go (Some x) e = absurd (let z : ◌≡◌ {A = ℕ} 0 1 = cc in omega arith)
 
 -- ---- what was written
 
-pub tagged-refused : (p : Plan (List ℕ)) {a : LevelAnswer} {r : Refusal} (peaks : ℕ) → a ≡ filed_answer p peaks → a ≡ Refused r → p ≡ no r
-tagged-refused (no q) {a} {r} peaks e f = let z : q ≡ r = cc in ap no z
-tagged-refused (yes w) peaks e f = absurd (let z : ◌≡◌ {A = ℕ} 0 1 = cc in omega arith)
+pub tagged-refused : (p : Plan (List ℕ)) {r : Refusal} (peaks : ℕ) → Err r ≡ filed_answer p peaks → p ≡ no r
+tagged-refused (no q) {r} peaks e = let z : q ≡ r = cc in ap no z
+tagged-refused (yes w) peaks e = absurd (let z : ◌≡◌ {A = ℕ} 0 1 = cc in omega arith)
 
-pub tagged-done : (p : Plan (List ℕ)) {a : LevelAnswer} {n k : ℕ} (peaks : ℕ) → a ≡ filed_answer p peaks → a ≡ Done n k → (w : List ℕ) × (p ≡ yes w) × (a ≡ Done (length w) peaks)
-tagged-done (no q) peaks e f = absurd (let z : ◌≡◌ {A = ℕ} 0 1 = cc in omega arith)
-tagged-done (yes w) peaks e f = (w, refl, e)
+pub tagged-done : (p : Plan (List ℕ)) {a : Leveled} (peaks : ℕ) → Ok a ≡ filed_answer p peaks → (w : List ℕ) × (p ≡ yes w) × (a ≡ record { length = length w; peaks = peaks })
+tagged-done (no q) peaks e = absurd (let z : ◌≡◌ {A = ℕ} 0 1 = cc in omega arith)
+tagged-done (yes w) peaks e = (w, refl, cc)
 
 module _ (file : List ℕ) (ts : List Item) (ls rs : List ℕ) where
   -- the new file begins with the audio
@@ -159,9 +158,9 @@ module _ (file : List ℕ) (ts : List Item) (ls rs : List ℕ) where
 -- ---- the end of a call that is done
 
 -- what is known when the tag was written, and what follows when the gains were moved in it
-pub record Ends (file : List ℕ) (l : Level) (room front : ℕ) (a : LevelAnswer) (old new : List ℕ) : Type 0 where
+pub record Ends (file : List ℕ) (l : Level) (room front : ℕ) (a : Leveled) (old new : List ℕ) : Type 0 where
   pub accepted : level_sound_plan file l room ≡ yes (sound_given file l)
-  pub answer : a ≡ Done (length (sound_given file l).out) (sound_given file l).peaks
+  pub answer : a ≡ record { length = length (sound_given file l).out; peaks = (sound_given file l).peaks }
   pub room-there : front ≤ length new
   pub same-there : take front new ≡ take front file
   pub after : {last : List ℕ}
@@ -171,12 +170,12 @@ pub record Ends (file : List ℕ) (l : Level) (room front : ℕ) (a : LevelAnswe
 module _ (file : List ℕ) (l : Level) (room : ℕ) (h : length file ≤ 16777216) (s : is_step l.left ≡ true) (t : is_step l.right ≡ true)
     (f : any_frame (frames_in (audio_of file)) ≡ true) (u : any_checksum (frames_in (audio_of file)) ≡ false) (range : Range)
     (r : range ≡ range_of (adjusted l.mode l.left (sound_left file) ++ adjusted l.mode l.right (sound_right file))) where
-  pub ended : (front : ℕ) → take front file ≡ audio_of file → front ≤ length file → {a : LevelAnswer} {n k : ℕ} (old new : List ℕ)
-      → a ≡ filed_answer (tagged_plan file l range room) (peaks_kept l.left l.right (items_of file)) → a ≡ Done n k
+  pub ended : (front : ℕ) → take front file ≡ audio_of file → front ≤ length file → {a : Leveled} (old new : List ℕ)
+      → Ok a ≡ filed_answer (tagged_plan file l range room) (peaks_kept l.left l.right (items_of file))
       → new ≡ over (written_bytes (tagged_plan file l range room)) old → Ends file l room front a old new
-  ended front e w {a} {n} {k} old new p q o =
+  ended front e w {a} old new p o =
       let items = new_items file (sound_left file) (sound_right file) l in
-      let (x, y, z) = tagged-done (tagged_plan file l range room) (peaks_kept l.left l.right (items_of file)) p q in
+      let (x, y, z) = tagged-done (tagged_plan file l range room) (peaks_kept l.left l.right (items_of file)) p in
       let (v, i) = sound-yes file l room h s t f u range r y in
       let long : length (audio_of file) ≡ front = ap length (sym e) ∙ length-take-le front file w in
       let now : new ≡ over (replaced file items) old = o ∙ ap (λ (g : Plan (List ℕ)). over (written_bytes g) old) y ∙ ap (λ (g : List ℕ). over g old) i in
@@ -185,7 +184,7 @@ module _ (file : List ℕ) (l : Level) (room : ℕ) (h : length file ≤ 1677721
       let rs = adjusted l.mode l.right (sound_right file) in
       record {
         accepted = v;
-        answer = z ∙ ap (λ (m : ℕ). Done m (peaks_kept l.left l.right (items_of file))) (ap length i ∙ sym (written-long file items ls rs));
+        answer = z ∙ ap (λ (m : ℕ). record { length = m; peaks = peaks_kept l.left l.right (items_of file) }) (ap length i ∙ sym (written-long file items ls rs));
         room-there = rw now (simp length-append (omega arith));
         same-there =
             ap (take front) now

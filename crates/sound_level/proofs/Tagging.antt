@@ -2,7 +2,7 @@
 use Prim.Native.Nat.{ℕ, ◌≤◌}
 use mathlib.Core.Path.{◌≡◌, sym, ap, ◌∙◌}
 use mathlib.Core.Bool.{Bool, true, false}
-use mathlib.Core.Option.{Option, none, some}
+use Rattle.std.specs.Prelude.{Option, None, Some}
 use mathlib.Core.List.{List, [], ◌∷◌}
 use lib.ListN.{length}
 use borrow.Author.Tests.{le-leb}
@@ -27,7 +27,7 @@ use Rattle.sound_level.specs.Tagged.{tagged_items, tagged_plan}
 parts : (gate once flag small fits room : Bool) (o : Option Refusal)
     → refusal_of (need NotEditable gate ∷ need SecondUndo once ∷ need FlagDiffers flag ∷ need UndoOutOfRange small ∷ []) ≡ o
     → refusal_of (need NotEditable gate ∷ need SecondUndo once ∷ need FlagDiffers flag ∷ need UndoOutOfRange small ∷ need TagTooLarge fits ∷ need NoRoom room ∷ [])
-    ≡ found o (refusal_of (need TagTooLarge fits ∷ need NoRoom room ∷ [])) some
+    ≡ found o (refusal_of (need TagTooLarge fits ∷ need NoRoom room ∷ [])) Some
 parts false once flag small fits room o e = rw (← e)
 parts true false flag small fits room o e = rw (← e)
 parts true true false small fits room o e = rw (← e)
@@ -51,14 +51,14 @@ module _ (file : List ℕ) (l : Level) (range : Range) (room : ℕ) (h : length 
 
   whole : (o : Option Refusal)
       → refusal_of (need NotEditable (passes_gate file) ∷ need SecondUndo (undo_once (items_of file)) ∷ need FlagDiffers flag ∷ need UndoOutOfRange (numbers_fit (booked l (items_of file))) ∷ []) ≡ o
-      → tagged_plan file l range room ≡ planned (found o (refusal_of (need TagTooLarge (tag_fits new) ∷ need NoRoom (has_room room (length (replaced file new))) ∷ [])) some) (replaced file new)
+      → tagged_plan file l range room ≡ planned (found o (refusal_of (need TagTooLarge (tag_fits new) ∷ need NoRoom (has_room room (length (replaced file new))) ∷ [])) Some) (replaced file new)
   unfolding tagged_plan
   whole o e =
       ap (λ q. planned q (replaced file new)) (parts (passes_gate file) (undo_once (items_of file)) flag (numbers_fit (booked l (items_of file))) (tag_fits new) (has_room room (length (replaced file new))) o e)
 
   pub tag-refused : {r : Refusal} → level_check file true l ≡ no r → tagged_plan file l range room ≡ no r
-  tag-refused {r} e = whole (some r) (refused _ (booked l (items_of file)) (sym checked ∙ e))
+  tag-refused {r} e = whole (Some r) (refused _ (booked l (items_of file)) (sym checked ∙ e))
 
   pub tag-last : {u : UndoValues} → level_check file true l ≡ yes u → tagged_plan file l range room ≡ tag_plan file new room
   unfolding tag_plan
-  tag-last e = whole none (done _ (booked l (items_of file)) (sym checked ∙ e)).0
+  tag-last e = whole None (done _ (booked l (items_of file)) (sym checked ∙ e)).0

@@ -2,7 +2,7 @@
 use Prim.Native.Nat.{ℕ, ◌≤◌, ◌<◌}
 use mathlib.Core.Path.{◌≡◌, sym, ap, ◌∙◌}
 use mathlib.Core.Bool.{Bool, true, false}
-use mathlib.Core.Option.{Option, none, some, get_or}
+use Rattle.std.specs.Prelude.{Option, None, Some, unwrap_or}
 use mathlib.Core.List.{List, [], ◌∷◌, ◌++◌}
 use native.Mathlib.Omega.{arith}
 use lib.IntN.{ℤ}
@@ -35,7 +35,7 @@ undone_sound file text =
 -- the tests of the check come before that of the new file
 parts : (gate once there room : Bool) (o : Option Refusal)
     → refusal_of (need NotEditable gate ∷ need SecondUndo once ∷ need NoUndo there ∷ []) ≡ o
-    → refusal_of (need NotEditable gate ∷ need SecondUndo once ∷ need NoUndo there ∷ need NoRoom room ∷ []) ≡ found o (refusal_of (need NoRoom room ∷ [])) some
+    → refusal_of (need NotEditable gate ∷ need SecondUndo once ∷ need NoUndo there ∷ need NoRoom room ∷ []) ≡ found o (refusal_of (need NoRoom room ∷ [])) Some
 parts false once there room o e = rw (← e)
 parts true false there room o e = rw (← e)
 parts true true false room o e = rw (← e)
@@ -65,7 +65,7 @@ module _ (file : List ℕ) (room : ℕ) where
 
         -- of a file that is not too long
         checked : undo_check file true
-            ≡ planned first (get_or (stored_undo (items_of file)) [])
+            ≡ planned first (unwrap_or (stored_undo (items_of file)) [])
         unfolding undo_check
         checked = rw (le-leb _ _ h)
 
@@ -74,21 +74,21 @@ module _ (file : List ℕ) (room : ℕ) where
         tests-are = rw (le-leb _ _ h, f, u, left_there (audio_of file) f)
 
         whole : (o : Option Refusal) → first ≡ o
-            → undo_mp3_plan file room ≡ planned (found o (refusal_of (need NoRoom ample ∷ [])) some) (sound_gives file (undo_gives file (sound_left file) (sound_right file)))
+            → undo_mp3_plan file room ≡ planned (found o (refusal_of (need NoRoom ample ∷ [])) Some) (sound_gives file (undo_gives file (sound_left file) (sound_right file)))
         unfolding undo_mp3_plan
         whole o e =
             ap (λ (q : Option Refusal). planned q (sound_gives file (undo_gives file (sound_left file) (sound_right file))))
             (tests-are ∙ parts (passes_gate file) (undo_once (items_of file)) (is_some (stored_undo (items_of file))) ample o e)
 
         pub undo-refused : {r : Refusal} → undo_check file true ≡ no r → undo_mp3_plan file room ≡ no r
-        undo-refused {r} e = whole (some r) (refused first (get_or (stored_undo (items_of file)) []) (sym checked ∙ e))
+        undo-refused {r} e = whole (Some r) (refused first (unwrap_or (stored_undo (items_of file)) []) (sym checked ∙ e))
 
         module _ (text : List ℕ) (e : undo_check file true ≡ yes text) where
-          stored : text ≡ get_or (stored_undo (items_of file)) []
-          stored = (done first (get_or (stored_undo (items_of file)) []) (sym checked ∙ e)).1
+          stored : text ≡ unwrap_or (stored_undo (items_of file)) []
+          stored = (done first (unwrap_or (stored_undo (items_of file)) []) (sym checked ∙ e)).1
 
           last : undo_mp3_plan file room ≡ planned (refusal_of (need NoRoom ample ∷ [])) (undone_sound file text)
-          last = whole none (done first (get_or (stored_undo (items_of file)) []) (sym checked ∙ e)).0 ∙ rw stored
+          last = whole None (done first (unwrap_or (stored_undo (items_of file)) []) (sym checked ∙ e)).0 ∙ rw stored
 
           pub undo-5 : ample ≡ false → undo_mp3_plan file room ≡ no NoRoom
           undo-5 a = last ∙ rw a

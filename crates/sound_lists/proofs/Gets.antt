@@ -1,5 +1,6 @@
 -- Laws of gains that are stored in a list one after another.
-use Prim.Native.Nat.{ℕ, ◌+◌, ◌*◌, ◌≤◌}
+use mathlib.Core.Bool.{Bool, true, false}
+use Prim.Native.Nat.{ℕ, suc, ◌+◌, ◌*◌, ◌≤◌}
 use native.Mathlib.Omega.{arith}
 use mathlib.Core.Path.{◌≡◌, refl, sym, ap, ◌∙◌}
 use mathlib.Core.List.{List, [], ◌∷◌, ◌++◌, append-nil, append_assoc}
@@ -7,48 +8,39 @@ use lib.ListN.{length, length-append, set, take}
 use lib.Seq.{set_out}
 use Rattle.lists.specs.Write.{over}
 use Rattle.layer3.specs.declared.Frame.{Frame}
-use Rattle.layer3.specs.declared.Header.TheVariants.{Valid}
+use Rattle.std.specs.Prelude.{Some}
 use Rattle.layer3.specs.Bits.{read_bits}
 use Rattle.layer3.specs.Fields.{Field, left, right, fields_from, read_left, read_right}
 use Rattle.layer3.specs.Walk.{frame_at, walk, fields_of}
+use Rattle.layer3.proofs.Places.{granules}
 use Rattle.layer3.proofs.Walk.{walk_end, walk-frame}
 use Rattle.sound_lists.specs.Lists.{filled, lefts_from, rights_from}
 
--- ---- the gains of one, two or four fields
+-- ---- one granule of a frame
 
-module _ (fs : List Field) (s : List ℕ) where
-  pub gains-mono-two : (a b : ℕ) → fs ≡ left a ∷ left b ∷ [] → (read_left fs s ≡ read_bits s a ∷ read_bits s b ∷ []) × (read_right fs s ≡ [])
-  unfolding read_left read_right
-  gains-mono-two a b e = rw e (refl, refl)
+-- a gain stored, and what is left to store
+pub stored-one : (out out' gs rest : List ℕ) (i r g : ℕ) → (r ≡ i + 1) × (out' ≡ set out i g) → gs ≡ g ∷ rest → (r + length rest ≡ i + length gs) × (filled out' r rest ≡ filled out i gs)
+unfolding filled
+stored-one out out' gs rest i r g (n, e) w = rw (w, n, e) (omega arith, refl)
 
-  pub gains-mono-one : (a : ℕ) → fs ≡ left a ∷ [] → (read_left fs s ≡ read_bits s a ∷ []) × (read_right fs s ≡ [])
-  unfolding read_left read_right
-  gains-mono-one a e = rw e (refl, refl)
+module _ (s : List ℕ) (k j bit next : ℕ) (mono : Bool) (more : k ≡ suc j) where
+  module _ (e : mono ≡ true) where
+    pub left-one : read_left (granules k mono bit next) s ≡ read_bits s bit ∷ read_left (granules j mono (bit + next) next) s
+    unfolding granules read_left
+    left-one = rw (more, e)
 
-  pub gains-stereo-two : (a b c d : ℕ) → fs ≡ left a ∷ right b ∷ left c ∷ right d ∷ []
-      → (read_left fs s ≡ read_bits s a ∷ read_bits s c ∷ []) × (read_right fs s ≡ read_bits s b ∷ read_bits s d ∷ [])
-  unfolding read_left read_right
-  gains-stereo-two a b c d e = rw e (refl, refl)
+    pub right-one : read_right (granules k mono bit next) s ≡ read_right (granules j mono (bit + next) next) s
+    unfolding granules read_right
+    right-one = rw (more, e)
 
-  pub gains-stereo-one : (a b : ℕ) → fs ≡ left a ∷ right b ∷ [] → (read_left fs s ≡ read_bits s a ∷ []) × (read_right fs s ≡ read_bits s b ∷ [])
-  unfolding read_left read_right
-  gains-stereo-one a b e = rw e (refl, refl)
+  module _ (e : mono ≡ false) where
+    pub left-two : read_left (granules k mono bit next) s ≡ read_bits s bit ∷ read_left (granules j mono (bit + next + next) next) s
+    unfolding granules read_left
+    left-two = rw (more, e)
 
--- ---- none, one or two gains stored
-
-module _ (out gs : List ℕ) (i : ℕ) where
-  pub got-0 : gs ≡ [] → (i ≡ i + length gs) × (out ≡ filled out i gs)
-  unfolding filled
-  got-0 e = rw e (omega arith, refl)
-
-  pub got-1 : (g : ℕ) → gs ≡ g ∷ [] → (new : List ℕ) (r : ℕ) → (r ≡ i + 1) × (new ≡ set out i g) → (r ≡ i + length gs) × (new ≡ filled out i gs)
-  unfolding filled
-  got-1 g e new r p = rw e (p.0, p.1)
-
-  pub got-2 : (g k : ℕ) → gs ≡ g ∷ k ∷ [] → (mid new : List ℕ) (a r : ℕ) → (a ≡ i + 1) × (mid ≡ set out i g) → (r ≡ a + 1) × (new ≡ set mid a k)
-      → (r ≡ i + length gs) × (new ≡ filled out i gs)
-  unfolding filled
-  got-2 g k e mid new a r p q = rw e (omega (arith, p.0, q.0), q.1 ∙ rw (p.0, p.1))
+    pub right-two : read_right (granules k mono bit next) s ≡ read_bits s (bit + next) ∷ read_right (granules j mono (bit + next + next) next) s
+    unfolding granules read_right
+    right-two = rw (more, e)
 
 -- ---- one list behind another
 
@@ -79,7 +71,7 @@ right-append (right o ∷ fs) gs s = ap (λ (l : List ℕ). read_bits s o ∷ l)
 
 -- ---- one step of the walk
 
-module _ (s : List ℕ) (at : ℕ) (h : Frame) (e : frame_at s at ≡ Valid h) (next : ℕ) (q : next ≡ at + h.size) where
+module _ (s : List ℕ) (at : ℕ) (h : Frame) (e : frame_at s at ≡ Some h) (next : ℕ) (q : next ≡ at + h.size) where
   left-from : lefts_from s at ≡ read_left (fields_from (8 * at) h) s ++ lefts_from s next
   unfolding fields_of
   left-from = rw (walk-frame s at h e, q) (left-append (fields_from (8 * at) h) (fields_of (walk (length s) s (at + h.size))) s)

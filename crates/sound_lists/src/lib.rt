@@ -9,7 +9,7 @@ ghost use Rattle.layer3.specs.Fields.{Field, fields_from, read_left, read_right,
 ghost use Rattle.layer3.specs.Walk.{walk, fields_of, left_gains, right_gains, with_gains};
 ghost use Rattle.sound_lists.specs.Lists.{put_first, behind, filled, lefts_from, rights_from};
 
-use layer3::{Frame, Header};
+use layer3::Frame;
 
 // Where a walk has come to, in the audio and in the list of each side.
 #[derive(Clone, Copy)]
@@ -26,9 +26,44 @@ fn put_field(out: &mut [u8], bit: usize, gains: &[u8], i: usize) -> usize
 {
     if i < gains.len() {
         layer3::write_bits(out, bit, gains[i]);
-        return i + 1;
+        i + 1
+    } else {
+        i
     }
-    i
+}
+
+// `put_frame` for one kind of frame.
+fn put_granules<const MPEG1: bool, const MONO: bool>(
+    out: &mut [u8],
+    h: Frame,
+    left: &[u8],
+    right: &[u8],
+    x: Places,
+) -> Places
+    requires { (h.mpeg1 ≡ MPEG1) × (h.mono ≡ MONO) × (LongFrame h) × (x.at + h.size ≤ length out.old) × (length out.old ≤ 16777216) }
+    ensures { let ls = left.now in
+        let rs = right.now in
+        (result.at ≡ x.at + h.size)
+        × ((fs : List Field) → write_fields fs (drop result.left ls) (drop result.right rs) out.new
+        ≡ write_fields (fields_from (8 * x.at) h ++ fs) (drop x.left ls) (drop x.right rs) out.old) }
+{
+    let p = layer3::gain_places::<MPEG1, MONO>(h, x.at);
+    let mut bit = p.first;
+    let mut left_at = x.left;
+    let mut right_at = x.right;
+    for _ in 0..p.granules {
+        left_at = put_field(out, bit, left, left_at);
+        bit += p.next;
+        if !MONO {
+            right_at = put_field(out, bit, right, right_at);
+            bit += p.next;
+        }
+    }
+    Places {
+        at: x.at + h.size,
+        left: left_at,
+        right: right_at,
+    }
 }
 
 // Puts the next gains of both lists into the frame at `x`, and answers where the walk goes on.
@@ -40,45 +75,11 @@ fn put_frame(out: &mut [u8], h: Frame, left: &[u8], right: &[u8], x: Places) -> 
         × ((fs : List Field) → write_fields fs (drop result.left ls) (drop result.right rs) out.new
         ≡ write_fields (fields_from (8 * x.at) h ++ fs) (drop x.left ls) (drop x.right rs) out.old) }
 {
-    let side = 8 * x.at + layer3::side_start(h);
-    let next = x.at + h.size;
-    if h.mono {
-        if h.mpeg1 {
-            let bit = side + 39;
-            let a = put_field(out, bit, left, x.left);
-            let b = put_field(out, bit + 59, left, a);
-            return Places {
-                at: next,
-                left: b,
-                right: x.right,
-            };
-        }
-        let a = put_field(out, side + 30, left, x.left);
-        return Places {
-            at: next,
-            left: a,
-            right: x.right,
-        };
-    }
-    if h.mpeg1 {
-        let bit = side + 41;
-        let a = put_field(out, bit, left, x.left);
-        let b = put_field(out, bit + 59, right, x.right);
-        let c = put_field(out, bit + 118, left, a);
-        let d = put_field(out, bit + 177, right, b);
-        return Places {
-            at: next,
-            left: c,
-            right: d,
-        };
-    }
-    let bit = side + 31;
-    let a = put_field(out, bit, left, x.left);
-    let b = put_field(out, bit + 63, right, x.right);
-    Places {
-        at: next,
-        left: a,
-        right: b,
+    match (h.mpeg1, h.mono) {
+        (true, true) => put_granules::<true, true>(out, h, left, right, x),
+        (true, false) => put_granules::<true, false>(out, h, left, right, x),
+        (false, true) => put_granules::<false, true>(out, h, left, right, x),
+        (false, false) => put_granules::<false, false>(out, h, left, right, x),
     }
 }
 
@@ -99,24 +100,20 @@ fn put_at(
         × (write_fields (fields_of (walk (length s) s result.at)) (drop result.left ls) (drop result.right rs) out.new
         ≡ write_fields (fields_of (walk (length s) s x.at)) (drop x.left ls) (drop x.right rs) out.old) }
 {
-    let at = x.at;
-    let f = layer3::frame_at(sizes, audio, at);
-    let Header::Valid(h) = f else {
+    let Some(h) = layer3::frame_at(sizes, audio, x.at) else {
         return Places {
-            at: layer3::next_sync(audio, at + 1),
-            left: x.left,
-            right: x.right,
+            at: layer3::next_sync(audio, x.at + 1),
+            ..x
         };
     };
     let y = put_frame(out, h, left, right, x);
     Places {
-        at: layer3::pass_frame(audio, at, y.at),
-        left: y.left,
-        right: y.right,
+        at: layer3::pass_frame(audio, x.at, y.at),
+        ..y
     }
 }
 
-// `write_gains`, by a table of frame lengths.
+// `write_gains`, by a table of frame lengths. No `for`: each turn goes on by a frame.
 fn write_all(sizes: &[usize; 128], audio: &[u8], left: &[u8], right: &[u8], out: &mut [u8])
     requires { (SizeTable sizes.now) × (out.old ≡ audio.now) × (length audio.now ≤ 16777216) }
     ensures { out.new ≡ with_gains audio.now left.now right.now }
@@ -155,9 +152,43 @@ fn get_field(audio: &[u8], bit: usize, gains: &mut [u8], i: usize) -> usize
 {
     if i < gains.len() {
         gains[i] = layer3::read_bits(audio, bit);
-        return i + 1;
     }
     i + 1
+}
+
+// `get_frame` for one kind of frame.
+fn get_granules<const MPEG1: bool, const MONO: bool>(
+    audio: &[u8],
+    h: Frame,
+    left: &mut [u8],
+    right: &mut [u8],
+    x: Places,
+) -> Places
+    requires { (h.mpeg1 ≡ MPEG1) × (h.mono ≡ MONO) × (LongFrame h) × (x.at + h.size ≤ length audio.now) × (length audio.now ≤ 16777216) × (x.left ≤ x.at) × (x.right ≤ x.at) }
+    ensures { let s = audio.now in
+        let ls = read_left (fields_from (8 * x.at) h) s in
+        let rs = read_right (fields_from (8 * x.at) h) s in
+        (result.at ≡ x.at + h.size) × (result.left ≤ result.at) × (result.right ≤ result.at)
+        × ((result.left ≡ x.left + length ls) × (left.new ≡ filled left.old x.left ls))
+        × ((result.right ≡ x.right + length rs) × (right.new ≡ filled right.old x.right rs)) }
+{
+    let p = layer3::gain_places::<MPEG1, MONO>(h, x.at);
+    let mut bit = p.first;
+    let mut left_at = x.left;
+    let mut right_at = x.right;
+    for _ in 0..p.granules {
+        left_at = get_field(audio, bit, left, left_at);
+        bit += p.next;
+        if !MONO {
+            right_at = get_field(audio, bit, right, right_at);
+            bit += p.next;
+        }
+    }
+    Places {
+        at: x.at + h.size,
+        left: left_at,
+        right: right_at,
+    }
 }
 
 // Stores the gains of the frame at `x`, and answers where the walk goes on.
@@ -170,45 +201,11 @@ fn get_frame(audio: &[u8], h: Frame, left: &mut [u8], right: &mut [u8], x: Place
         × ((result.left ≡ x.left + length ls) × (left.new ≡ filled left.old x.left ls))
         × ((result.right ≡ x.right + length rs) × (right.new ≡ filled right.old x.right rs)) }
 {
-    let side = 8 * x.at + layer3::side_start(h);
-    let next = x.at + h.size;
-    if h.mono {
-        if h.mpeg1 {
-            let bit = side + 39;
-            let a = get_field(audio, bit, left, x.left);
-            let b = get_field(audio, bit + 59, left, a);
-            return Places {
-                at: next,
-                left: b,
-                right: x.right,
-            };
-        }
-        let a = get_field(audio, side + 30, left, x.left);
-        return Places {
-            at: next,
-            left: a,
-            right: x.right,
-        };
-    }
-    if h.mpeg1 {
-        let bit = side + 41;
-        let a = get_field(audio, bit, left, x.left);
-        let b = get_field(audio, bit + 59, right, x.right);
-        let c = get_field(audio, bit + 118, left, a);
-        let d = get_field(audio, bit + 177, right, b);
-        return Places {
-            at: next,
-            left: c,
-            right: d,
-        };
-    }
-    let bit = side + 31;
-    let a = get_field(audio, bit, left, x.left);
-    let b = get_field(audio, bit + 63, right, x.right);
-    Places {
-        at: next,
-        left: a,
-        right: b,
+    match (h.mpeg1, h.mono) {
+        (true, true) => get_granules::<true, true>(audio, h, left, right, x),
+        (true, false) => get_granules::<true, false>(audio, h, left, right, x),
+        (false, true) => get_granules::<false, true>(audio, h, left, right, x),
+        (false, false) => get_granules::<false, false>(audio, h, left, right, x),
     }
 }
 
@@ -228,24 +225,20 @@ fn get_at(
         × ((result.right + length (rights_from s result.at) ≡ x.right + length (rights_from s x.at))
         × (filled right.new result.right (rights_from s result.at) ≡ filled right.old x.right (rights_from s x.at))) }
 {
-    let at = x.at;
-    let f = layer3::frame_at(sizes, audio, at);
-    let Header::Valid(h) = f else {
+    let Some(h) = layer3::frame_at(sizes, audio, x.at) else {
         return Places {
-            at: layer3::next_sync(audio, at + 1),
-            left: x.left,
-            right: x.right,
+            at: layer3::next_sync(audio, x.at + 1),
+            ..x
         };
     };
     let y = get_frame(audio, h, left, right, x);
     Places {
-        at: layer3::pass_frame(audio, at, y.at),
-        left: y.left,
-        right: y.right,
+        at: layer3::pass_frame(audio, x.at, y.at),
+        ..y
     }
 }
 
-// `read_gains`, by a table of frame lengths.
+// `read_gains`, by a table of frame lengths. No `for`: each turn goes on by a frame.
 fn read_all(sizes: &[usize; 128], audio: &[u8], left: &mut [u8], right: &mut [u8]) -> Counts
     requires { (SizeTable sizes.now) × (length audio.now ≤ 16777216) }
     ensures { let s = audio.now in

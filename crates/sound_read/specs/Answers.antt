@@ -1,15 +1,16 @@
 -- What read_gains answers and leaves in the two lists.
+use Rattle.std.specs.Prelude.{Result, Ok, Err}
 use Rattle.std.specs.Prelude.{ℕ, List, length, take}
 use Rattle.lists.specs.Write.{over}
 use Rattle.replies.specs.Refusal.{Plan, no, yes}
 use Rattle.sound_calls.specs.Sound.{Gains}
-use Rattle.sound_read.specs.declared.GainsRead.{GainsRead}
-use Rattle.sound_read.specs.declared.GainsRead.TheVariants.{Done, Refused}
+use Rattle.replies.specs.declared.Refusal.{Refusal}
+use Rattle.sound_lists.specs.declared.Counts.{Counts}
 
 -- how many gains there are, or the refusal
-abbrev pub read_answer : Plan Gains → GainsRead
-read_answer (no r) = Refused r
-read_answer (yes g) = Done (record { left = length g.left; right = length g.right })
+abbrev pub read_answer : Plan Gains → Result Counts Refusal
+read_answer (no r) = Err r
+read_answer (yes g) = Ok (record { left = length g.left; right = length g.right })
 
 -- a list with these gains at its front, as many as it has room for
 abbrev pub into : List ℕ → List ℕ → List ℕ

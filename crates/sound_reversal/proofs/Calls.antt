@@ -1,9 +1,9 @@
 -- A call on the sound of an MP3 does what the call on lists does, beside it.
 use Prim.Native.Nat.{ℕ, ◌+◌, ◌-◌, ◌≤◌}
 use native.Mathlib.Omega.{arith}
+use Rattle.std.specs.Prelude.{unwrap_or}
 use mathlib.Core.Path.{◌≡◌, refl, ap, ◌∙◌}
 use mathlib.Core.Bool.{true, false, not}
-use mathlib.Core.Option
 use mathlib.Core.List.{List, [], ◌∷◌, ◌++◌}
 use lib.ListN.{length, get_or, drop, length-append, length-drop, length-map}
 use lib.Seq.{get_or-drop, drop-append_seam}
@@ -101,7 +101,7 @@ levelled front back ls rs ts l = record {
 
 -- and undo
 abbrev pub text_in : List Item → List ℕ
-text_in ts = Option.get_or (stored_undo ts) []
+text_in ts = unwrap_or (stored_undo ts) []
 
 unfoldable pub undone : List ℕ → List ℕ → List ℕ → List ℕ → List Item → Levelled
 undone front back ls rs ts = record {

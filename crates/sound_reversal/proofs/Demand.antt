@@ -4,7 +4,7 @@ use native.Mathlib.Omega.{arith}
 use mathlib.Core.Path.{◌≡◌, refl, sym, ap, ◌∙◌}
 use mathlib.Core.Logic.{◌↔◌, ◌⊎◌}
 use mathlib.Core.Bool.{Bool, true, false, true≢false}
-use mathlib.Core.Option.{Option, none, some}
+use Rattle.std.specs.Prelude.{Option, None, Some}
 use mathlib.Core.List.{List, [], ◌∷◌, ◌++◌}
 use lib.ListN.{length, get_or, drop}
 use lib.Seq.{ext_get_or, drop-append_seam}
@@ -58,8 +58,8 @@ accepts-fine file a e = go (refusal_of tests) refl e
     tests = frame_tests file ++ level_tests file (sound_left file) (sound_right file) (asked a.wish file) a.room
 
     go : (o : Option Refusal) → refusal_of tests ≡ o → is_yes (planned o (sound_gives file (level_gives file (sound_left file) (sound_right file) (asked a.wish file)))) ≡ true → Fine (audio_of file)
-    go none q e = record { some-frame = passed tests q NoFrame _ refl; unchecked = not-true _ (passed tests q HasChecksum _ refl) }
-    go (some r) q e = absurd (true≢false (sym e))
+    go None q e = record { some-frame = passed tests q NoFrame _ refl; unchecked = not-true _ (passed tests q HasChecksum _ refl) }
+    go (Some r) q e = absurd (true≢false (sym e))
 
 refused-stays : (file : List ℕ) (a : Asked) → accepts file a ≡ false → next file a ≡ file
 unfolding accepts next
@@ -123,11 +123,11 @@ module _ (front back : List ℕ) (clear : Before (length front - 160) (fields_in
         out = law-replaced front h.items back h.sound _ ∙ ap (λ (ts : List Item). file_of front (new_tag (asked a.wish file) ts s.left s.right) back) (law-items front h.items back h.sound)
 
         go : (o : Option Refusal) → refusal_of tests ≡ o → Step file s a
-        go (some r) q =
+        go (Some r) q =
             let (x, y) = by-plan file a (no r) (sounds ∙ ap (λ (o : Option Refusal). planned o (levelled front back s.left s.right h.items (asked a.wish file))) q) in
             let (v, w) = by-lists file s a (no r) (plain ∙ ap (λ (o : Option Refusal). planned o (level_gives (file_of front h.items back) s.left s.right (asked a.wish file))) q) in
             record { same = x ∙ sym v; holds = rw (y, w) h }
-        go none q =
+        go None q =
             let gives = level_gives (file_of front h.items back) s.left s.right (asked a.wish file) in
             let there = levelled front back s.left s.right h.items (asked a.wish file) in
             let done_plain : level_plan (file_of front h.items back) s.left s.right (asked a.wish file) a.room ≡ yes gives = ap (λ (o : Option Refusal). planned o gives) q in
@@ -262,7 +262,7 @@ module _ (file : List ℕ) (as' : List Asked) (room : ℕ) (given : Given file a
   gone = lists-restored.undone
 
   -- the undo on lists is done
-  lists-undo : (refusal_of (undo_tests (file_of (audio_of file) ts (split file).back) last.left room) ≡ none)
+  lists-undo : (refusal_of (undo_tests (file_of (audio_of file) ts (split file).back) last.left room) ≡ None)
       × (undo_gives (file_of (audio_of file) ts (split file).back) last.left last.right ≡ gone)
   unfolding undo_plan last ts
   lists-undo = done _ _ gone (ap (λ (f : List ℕ). undo_plan f last.left last.right room) (sym last-holds.bare) ∙ lists-restored.accepted)

@@ -1,15 +1,14 @@
 -- What the two stages of reading a file's end answer and write.
 use Rattle.std.specs.Prelude.{ℕ, ◌&&◌, List, [], ◌∷◌, length, leb}
-use Rattle.std.proofs.Math.Option.{Option}
+use Rattle.std.specs.Prelude.{Option, Result, Ok, Err}
 use Rattle.replies.specs.Limits.{file_limit}
 use Rattle.replies.specs.Refusal.{Test, need, refusal_of, Plan, no, yes, planned}
+use Rattle.replies.specs.declared.Refusal.{Refusal}
 use Rattle.replies.specs.declared.Refusal.TheVariants.{FileTooLong}
 use Rattle.items.specs.Items.{Item}
 use Rattle.ape.specs.Tag.{read_tag}
 use Rattle.ape.specs.Answers.{room_for, read_area}
 use Rattle.tail_read.specs.Needed.{needed}
-use Rattle.tail_read.specs.declared.Needs.{Needs}
-use Rattle.tail_read.specs.declared.Needs.TheVariants.{Bytes, Refused}
 
 -- ---- the first stage, bytes_needed
 
@@ -18,9 +17,9 @@ abbrev pub length_fits : ℕ → Test
 length_fits n = need FileTooLong (leb n file_limit)
 
 -- a number of bytes, or the refusal
-abbrev pub needs_answer : Plan ℕ → Needs
-needs_answer (no r) = Refused r
-needs_answer (yes k) = Bytes k
+abbrev pub needs_answer : Plan ℕ → Result ℕ Refusal
+needs_answer (no r) = Err r
+needs_answer (yes k) = Ok k
 
 -- how many final bytes are to be lent to the second stage: refusal 1
 abbrev pub needs_plan : List ℕ → ℕ → Plan ℕ

@@ -1,6 +1,6 @@
 -- Small probes, one for each case. Proved together in proofs/Figures.antt.
 use Rattle.std.specs.Prelude.{ℕ, ◌≡◌, List, [], ◌∷◌, ◌++◌, replicate}
-use Rattle.std.proofs.Math.Option.{some}
+use Rattle.std.specs.Prelude.{Some}
 use Rattle.lists.specs.Bytes.{ascii}
 use Rattle.replies.specs.Refusal.{no, yes}
 use Rattle.replies.specs.declared.Refusal.TheVariants.{FileTooLong, NoRoom}
@@ -44,5 +44,5 @@ pub record Figures : Type 0 where
   pub longest : needs_plan (replicate 160 0) 16777216 ≡ yes 160
   pub too_long : needs_plan (replicate 160 0) 16777217 ≡ no FileTooLong
   -- the tag of one item of 12 bytes, read into room for it and into one byte less
-  pub read : end_plan (serialize item) 1000 12 ≡ yes (some item)
+  pub read : end_plan (serialize item) 1000 12 ≡ yes (Some item)
   pub no_room : end_plan (serialize item) 1000 11 ≡ no NoRoom

@@ -7,84 +7,52 @@ ghost use Rattle.ape.specs.Answers.{read_plan, read_answer, read_bytes};
 ghost use Rattle.tail_read.specs.Needed.{needed};
 ghost use Rattle.tail_read.specs.Answers.{needs_plan, needs_answer, end_plan};
 
-use ape::{Footer, TagRead};
+use items::Size;
 use replies::Refusal;
 
 // How many bytes a probe has where the file has as many: a footer and an ID3v1 block.
 const PROBE: usize = 160;
 
-// How many final bytes of a file the second stage takes, or why there is none.
-#[derive(Clone, Copy)]
-pub enum Needs {
-    Bytes(usize),
-    Refused(Refusal),
-}
-
-fn least(a: usize, b: usize) -> usize
-    ensures { result ≡ min a b }
-{
-    if a < b {
-        return a;
-    }
-    b
-}
-
-fn greatest(a: usize, b: usize) -> usize
-    ensures { result ≡ max a b }
-{
-    if a < b {
-        return b;
-    }
-    a
-}
-
 // How many final bytes of a file of `total` bytes reading needs, by its last 160 bytes or fewer.
 fn number_needed(probe: &[u8], total: usize) -> usize
     ensures { result ≡ needed probe.now total }
 {
-    let found = ape::find_footer(probe);
-    let Footer::At(footer) = found else {
+    let Some(footer) = ape::find_footer(probe) else {
         return probe.len();
     };
     let size = frame::read_u32_le(probe, footer + 12) as usize;
-    least(
-        total,
-        greatest(probe.len(), size + 32 + (probe.len() - footer)),
-    )
+    total.min(probe.len().max(size + 32 + (probe.len() - footer)))
 }
 
 // The first stage, on the last 160 bytes or fewer of a file of `total` bytes: how many final bytes the second stage takes. Refusal 1.
-pub fn bytes_needed(probe: &[u8], total: usize) -> Needs
+pub fn bytes_needed(probe: &[u8], total: usize) -> Result<usize, Refusal>
     ensures { result ≡ needs_answer (needs_plan probe.now total) }
 {
     if replies::FILE_LIMIT < total {
-        return Needs::Refused(Refusal::FileTooLong);
+        return Err(Refusal::FileTooLong);
     }
-    Needs::Bytes(number_needed(probe, total))
+    Ok(number_needed(probe, total))
 }
 
 // The second stage, on that many final bytes of a file of `total` bytes: its tag read into `area`. Refusals 1 and 5.
-pub fn read_end(end: &[u8], total: usize, area: &mut [u8]) -> TagRead
+pub fn read_end(end: &[u8], total: usize, area: &mut [u8]) -> Result<Option<Size>, Refusal>
     ensures { let plan = end_plan end.now total (length area.old) in
         (result ≡ read_answer plan) × (area.new ≡ over (read_bytes plan) area.old) }
 {
     if replies::FILE_LIMIT < total {
-        return TagRead::Refused(Refusal::FileTooLong);
+        return Err(Refusal::FileTooLong);
     }
     ape::read_ape_tag(end, area)
 }
 
 // Both stages on a lent file, of which only the end is looked at: the same as `ape::read_ape_tag`. Refusals 1 and 5.
-pub fn read_from_end(file: &[u8], area: &mut [u8]) -> TagRead
+pub fn read_from_end(file: &[u8], area: &mut [u8]) -> Result<Option<Size>, Refusal>
     ensures { let plan = read_plan file.now (length area.old) in
         (result ≡ read_answer plan) × (area.new ≡ over (read_bytes plan) area.old) }
 {
     let n = file.len();
-    let probe = n - least(n, PROBE);
-    let needs = bytes_needed(&file[probe..], n);
-    let Needs::Bytes(k) = needs else {
-        return TagRead::Refused(Refusal::FileTooLong);
-    };
-    let start = n - least(n, k);
+    let probe = n - n.min(PROBE);
+    let k = bytes_needed(&file[probe..], n)?;
+    let start = n - n.min(k);
     read_end(&file[start..], n, area)
 }

@@ -1,4 +1,5 @@
 -- Laws of `place_in`: by the tests of the code, and that its places are those of the audio end and of what follows.
+use Rattle.std.specs.Prelude.{Option, None, Some}
 use Prim.Native.Nat.{ℕ, ◌+◌, ◌-◌, ◌≤◌, ◌<◌}
 use native.Mathlib.Omega.{arith}
 use mathlib.Core.Path.{◌≡◌, refl, sym, ap, ◌∙◌}
@@ -10,12 +11,8 @@ use lib.Dec.{leb}
 use borrow.Author.Tests.{leb-true, leb-false, le-leb, lt-leb}
 use Rattle.lists.specs.Write.{part}
 use Rattle.frame.specs.Tail.{preamble, stands_at, ends_with_id3v1, tag_start}
-use Rattle.frame.specs.declared.TagStart.{TagStart}
-use Rattle.frame.specs.declared.TagStart.TheVariants.{At as StartAt, Nowhere as NoStart}
 use Rattle.frame.proofs.Tails.{start-within}
 use Rattle.ape.specs.Tag.{find_footer, split}
-use Rattle.ape.specs.declared.Footer.{Footer}
-use Rattle.ape.specs.declared.Footer.TheVariants.{At, Nowhere}
 use Rattle.ape.proofs.Files.{footer-within}
 use Rattle.ape_replace.specs.Answers.{cut, audio_cut, Cuts}
 use Rattle.ape_replace.proofs.Cutting.{audio-plain, tag-none, tag-unstarted, tag-started, parts-rest, parts_last, cuts-as}
@@ -28,11 +25,11 @@ abbrev pub PlacesAs : List ℕ → Place → Type 0
 PlacesAs s p = Places s p.tagged p.end p.from p.to
 
 -- a footer stands at most 160 bytes before the end
-footer-near : (s : List ℕ) (f : ℕ) → find_footer s ≡ At f → length s ≤ f + 160
+footer-near : (s : List ℕ) (f : ℕ) → find_footer s ≡ Some f → length s ≤ f + 160
 unfolding find_footer
 footer-near s f e = go (stands_at 32 preamble s) (stands_at 160 preamble s && ends_with_id3v1 s) e
   where
-    go : (a b : Bool) → cond a (At (length s - 32)) (cond b (At (length s - 160)) Nowhere) ≡ At f → length s ≤ f + 160
+    go : (a b : Bool) → cond a (Some (length s - 32)) (cond b (Some (length s - 160)) None) ≡ Some f → length s ≤ f + 160
     go true b e = let q : length s - 32 ≡ f = cc in omega arith
     go false true e = let q : length s - 160 ≡ f = cc in omega arith
     go false false e = absurd (let z : ◌≡◌ {A = ℕ} 0 1 = cc in omega arith)
@@ -67,26 +64,26 @@ module _ (s : List ℕ) where
 
   -- ---- no tag: all is audio
 
-  pub place_none : find_footer s ≡ Nowhere → bare_of (audio_cut s (length s)) ≡ place_in s
+  pub place_none : find_footer s ≡ None → bare_of (audio_cut s (length s)) ≡ place_in s
   unfolding place_in
   place_none e = rw e
 
-  none_is : find_footer s ≡ Nowhere → PlacesAs s (bare_of (audio_cut s (length s)))
+  none_is : find_footer s ≡ None → PlacesAs s (bare_of (audio_cut s (length s)))
   unfolding tagless block_before
   none_is e = as-split false (cuts-as s (audio_cut s (length s)) (parts_last s (cut (length s) (length s) (length s)) (tag-none s e) (omega arith))) (rw e) (rw e) (audio-few s (length s))
 
-  module _ (f : ℕ) (at : find_footer s ≡ At f) where
-    pub place-unstarted : tag_start s f ≡ NoStart → bare_of (audio_cut s (length s)) ≡ place_in s
+  module _ (f : ℕ) (at : find_footer s ≡ Some f) where
+    pub place-unstarted : tag_start s f ≡ None → bare_of (audio_cut s (length s)) ≡ place_in s
     unfolding place_in
     place-unstarted e = rw (at, e)
 
-    unstarted-is : tag_start s f ≡ NoStart → PlacesAs s (bare_of (audio_cut s (length s)))
+    unstarted-is : tag_start s f ≡ None → PlacesAs s (bare_of (audio_cut s (length s)))
     unfolding tagless block_before
     unstarted-is e = as-split false (cuts-as s (audio_cut s (length s)) (parts_last s (cut (length s) (length s) (length s)) (tag-unstarted s f at e) (omega arith))) (rw (at, e)) (rw (at, e)) (audio-few s (length s))
 
     -- ---- a tag
 
-    module _ (a : ℕ) (e : tag_start s f ≡ StartAt a) where
+    module _ (a : ℕ) (e : tag_start s f ≡ Some a) where
       -- the place as the code makes it
       abbrev pub here : Place
       here = record { tagged = true; end = a; from = f + 32; to = length s }
@@ -158,13 +155,13 @@ module _ (s : List ℕ) where
   pub place_is : PlacesAs s (place_in s)
   place_is = go (find_footer s) refl
     where
-      begun : (f : ℕ) (at : find_footer s ≡ At f) (t : TagStart) → tag_start s f ≡ t → PlacesAs s (place_in s)
-      begun f at (StartAt a) e = rw (← place-tagged f at a e) (started-is f at a e)
-      begun f at NoStart e = rw (← place-unstarted f at e) (unstarted-is f at e)
+      begun : (f : ℕ) (at : find_footer s ≡ Some f) (t : Option ℕ) → tag_start s f ≡ t → PlacesAs s (place_in s)
+      begun f at (Some a) e = rw (← place-tagged f at a e) (started-is f at a e)
+      begun f at None e = rw (← place-unstarted f at e) (unstarted-is f at e)
 
-      go : (x : Footer) → find_footer s ≡ x → PlacesAs s (place_in s)
-      go (At f) at = begun f at (tag_start s f) refl
-      go Nowhere e = rw (← place_none e) (none_is e)
+      go : (x : Option ℕ) → find_footer s ≡ x → PlacesAs s (place_in s)
+      go (Some f) at = begun f at (tag_start s f) refl
+      go None e = rw (← place_none e) (none_is e)
 
   -- so are those that it hands back
   pub places-as : (p : Place) → p ≡ place_in s → PlacesAs s p

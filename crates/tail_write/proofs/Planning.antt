@@ -3,7 +3,7 @@ use Prim.Native.Nat.{ℕ, ◌+◌, ◌-◌, ◌≤◌, ◌<◌, max}
 use native.Mathlib.Omega.{arith}
 use mathlib.Core.Path.{◌≡◌, refl, sym, ap, ◌∙◌}
 use mathlib.Core.Bool.{Bool, true, false, ◌&&◌, cond, and-eq-true_iff}
-use mathlib.Core.Option.{none}
+use Rattle.std.specs.Prelude.{Ok, None, Some}
 use mathlib.Core.List.{List, [], ◌∷◌, ◌++◌}
 use lib.ListN.{length, take, drop, length-append}
 use lib.Seq.{take-take, take_all, take-length}
@@ -16,9 +16,7 @@ use Rattle.replies.specs.declared.Refusal.TheVariants.{NoRoom}
 use Rattle.replies.proofs.Order.{passed, done}
 use Rattle.items.specs.Items.{Item, items_in}
 use Rattle.frame.specs.Tail.{tag_start}
-use Rattle.frame.specs.declared.TagStart.TheVariants.{At as StartAt}
 use Rattle.ape.specs.Tag.{find_footer, serialize}
-use Rattle.ape.specs.declared.Footer.TheVariants.{At}
 use Rattle.ape.specs.Answers.{lent_fits, has_room}
 use Rattle.ape_write.specs.Answers.{area_fits}
 use Rattle.ape_replace.proofs.Cutting.{part-front}
@@ -47,7 +45,7 @@ module _ (s : List ℕ) (ts : List Item) where
     tail-length = ap length_of tail_at ∙ simp length-append (omega (arith, length_part from to s p.within))
 
   -- a tag in its place: from its start on the new tag, and what stands behind the footer
-  pub tail-tagged : (f a : ℕ) → find_footer s ≡ At f → tag_start s f ≡ StartAt a → tail_of s ts ≡ tail a (serialize ts ++ part (f + 32) (length s) s)
+  pub tail-tagged : (f a : ℕ) → find_footer s ≡ Some f → tag_start s f ≡ Some a → tail_of s ts ≡ tail a (serialize ts ++ part (f + 32) (length s) s)
   tail-tagged f a at e =
       let p = places-as s (here s f at a e) (place-tagged s f at a e) in
       tail_at p (ap (λ (b : Bool). b && eqb (length ts) 0) p.tagged_is)
@@ -69,7 +67,7 @@ module _ (s : List ℕ) (ts : List Item) where
 
 -- what is found, by the two places between which is written
 pub found_as : (n k end new : ℕ) (t : Tail) → t.end ≡ end → length_of t ≡ new
-    → cond (ltb (new - end) k) (Done end new) (Stopped end (max n (end + k))) ≡ rewrite_answer n k (yes t)
+    → Ok (cond (ltb (new - end) k) (Done end new) (Stopped end (max n (end + k)))) ≡ rewrite_answer n k (yes t)
 found_as n k end new t e f =
     let d : new - end ≡ length t.bytes = omega arith in
     rw (d, ← f, ← e)
@@ -83,7 +81,7 @@ module _ (buf : List ℕ) (n : ℕ) (area : List ℕ) (count : ℕ) where
   abbrev tests : List Test
   tests = lent_fits (take n buf) ∷ area_fits count area ∷ need NoRoom (has_room (length buf) (length_of new)) ∷ []
 
-  fits : refusal_of tests ≡ none → (length_of new ≤ length buf) × (length_of new ≤ 16777216)
+  fits : refusal_of tests ≡ None → (length_of new ≤ length buf) × (length_of new ≤ 16777216)
   fits o =
       let (a, b) = (and-eq-true_iff (leb (length_of new) (length buf)) (leb (length_of new) 16777216)).0 (passed tests o NoRoom (has_room (length buf) (length_of new)) refl) in
       (leb-true _ _ a, leb-true _ _ b)

@@ -1,7 +1,8 @@
 -- What the rewriting of a file's end answers and leaves in the buffer.
-use Rattle.std.specs.Prelude.{ℕ, ◌+◌, ◌≤◌, Bool, true, false, not, cond, ◌≡◌, List, [], ◌∷◌, length, take, leb, ltb}
+use Rattle.std.specs.Prelude.{ℕ, ◌+◌, ◌≤◌, Bool, true, false, not, cond, ◌≡◌, List, [], ◌∷◌, length, take, leb, ltb, Result, Ok, Err}
 use Rattle.lists.specs.Write.{part}
 use Rattle.replies.specs.Refusal.{need, refusal_of, Plan, no, yes, planned}
+use Rattle.replies.specs.declared.Refusal.{Refusal}
 use Rattle.replies.specs.declared.Refusal.TheVariants.{NoRoom}
 use Rattle.frame.specs.Tail.{tag_start}
 use Rattle.items.specs.Items.{Item, items_in}
@@ -13,7 +14,7 @@ use Rattle.ape_replace.specs.declared.Cut.{Cut}
 use Rattle.tail_write.specs.Rewrite.{tagless, audio_end, behind, Tail, tail_of, length_of, after, length_after}
 use Rattle.tail_write.specs.declared.Place.{Place}
 use Rattle.tail_write.specs.declared.Rewritten.{Rewritten}
-use Rattle.tail_write.specs.declared.Rewritten.TheVariants.{Done, Stopped, Refused}
+use Rattle.tail_write.specs.declared.Rewritten.TheVariants.{Done, Stopped}
 
 -- ---- the plan
 
@@ -29,9 +30,9 @@ rewrite_plan buf n area count =
     cond (leb n (length buf)) (planned (refusal_of (lent_fits file ∷ area_fits count area ∷ need NoRoom (has_room (length buf) (length_of t)) ∷ [])) t) (no NoRoom)
 
 -- what is found after k writes: each byte of the tail is one, and the one behind them sets the length
-abbrev pub rewrite_answer : ℕ → ℕ → Plan Tail → Rewritten
-rewrite_answer n k (no r) = Refused r
-rewrite_answer n k (yes t) = cond (ltb (length t.bytes) k) (Done t.end (length_of t)) (Stopped t.end (length_after t k n))
+abbrev pub rewrite_answer : ℕ → ℕ → Plan Tail → Result Rewritten Refusal
+rewrite_answer n k (no r) = Err r
+rewrite_answer n k (yes t) = Ok (cond (ltb (length t.bytes) k) (Done t.end (length_of t)) (Stopped t.end (length_after t k n)))
 
 -- the buffer then: as it was when refused
 abbrev pub rewrite_buffer : ℕ → Plan Tail → List ℕ → List ℕ
@@ -39,9 +40,9 @@ rewrite_buffer k (no r) buf = buf
 rewrite_buffer k (yes t) buf = after t k buf
 
 -- the answer after all writes
-abbrev pub whole_answer : Plan Tail → Rewritten
-whole_answer (no r) = Refused r
-whole_answer (yes t) = Done t.end (length_of t)
+abbrev pub whole_answer : Plan Tail → Result Rewritten Refusal
+whole_answer (no r) = Err r
+whole_answer (yes t) = Ok (Done t.end (length_of t))
 
 -- the buffer after all writes
 abbrev pub whole_buffer : Plan Tail → List ℕ → List ℕ

@@ -1,5 +1,5 @@
 -- Small files rewritten, one for each case. Proved together in proofs/Figures.antt.
-use Rattle.std.specs.Prelude.{ℕ, ◌≡◌, List, [], ◌∷◌, ◌++◌, replicate}
+use Rattle.std.specs.Prelude.{Ok, ℕ, ◌≡◌, List, [], ◌∷◌, ◌++◌, replicate}
 use Rattle.lists.specs.Bytes.{ascii}
 use Rattle.replies.specs.Refusal.{no, yes}
 use Rattle.replies.specs.declared.Refusal.TheVariants.{NoRoom, MalformedArea}
@@ -50,10 +50,10 @@ pub record Figures : Type 0 where
   -- so it does where the tag has size 0, no header, and lies in the block
   pub size-0 : rewrite_plan (trap ++ room 76) 128 area 1 ≡ yes (tail 128 (serialize item))
   -- the same after so many writes: with an ID3v1 block alone, the length that is found grows only behind the old one, and is set by the write behind the last
-  pub found-76 : rewrite_answer 128 76 (rewrite_plan (block ++ room 76) 128 area 1) ≡ Stopped 0 128
-  pub found-130 : rewrite_answer 128 130 (rewrite_plan (block ++ room 76) 128 area 1) ≡ Stopped 0 130
-  pub found-204 : rewrite_answer 128 204 (rewrite_plan (block ++ room 76) 128 area 1) ≡ Stopped 0 204
-  pub found-205 : rewrite_answer 128 205 (rewrite_plan (block ++ room 76) 128 area 1) ≡ Done 0 204
+  pub found-76 : rewrite_answer 128 76 (rewrite_plan (block ++ room 76) 128 area 1) ≡ Ok (Stopped 0 128)
+  pub found-130 : rewrite_answer 128 130 (rewrite_plan (block ++ room 76) 128 area 1) ≡ Ok (Stopped 0 130)
+  pub found-204 : rewrite_answer 128 204 (rewrite_plan (block ++ room 76) 128 area 1) ≡ Ok (Stopped 0 204)
+  pub found-205 : rewrite_answer 128 205 (rewrite_plan (block ++ room 76) 128 area 1) ≡ Ok (Done 0 204)
   -- a shorter file keeps its old length until then
-  pub found-longer : rewrite_answer 160 128 (rewrite_plan (bare 32 ++ block) 160 [] 0) ≡ Stopped 0 160
-  pub found-shorter : rewrite_answer 160 129 (rewrite_plan (bare 32 ++ block) 160 [] 0) ≡ Done 0 128
+  pub found-longer : rewrite_answer 160 128 (rewrite_plan (bare 32 ++ block) 160 [] 0) ≡ Ok (Stopped 0 160)
+  pub found-shorter : rewrite_answer 160 129 (rewrite_plan (bare 32 ++ block) 160 [] 0) ≡ Ok (Done 0 128)

@@ -9,9 +9,7 @@ ghost use Rattle.ape.specs.Tag.{serialize};
 ghost use Rattle.ape_write.specs.Answers.{tag_parts};
 ghost use Rattle.tail_write.specs.Answers.{bare_of, place_in, room_plan, rewrite_plan, rewrite_answer, rewrite_buffer, whole_answer, whole_buffer};
 
-use ape::Footer;
 use ape_replace::Cut;
-use frame::TagStart;
 use replies::Refusal;
 
 // Where a file is rewritten: from `end` on, and what follows the new tag stands between `from` and `to`.
@@ -29,16 +27,6 @@ struct Place {
 pub enum Rewritten {
     Done { end: usize, length: usize },
     Stopped { end: usize, length: usize },
-    Refused(Refusal),
-}
-
-fn greatest(a: usize, b: usize) -> usize
-    ensures { result ≡ max a b }
-{
-    if a < b {
-        return b;
-    }
-    a
 }
 
 // The place in a file without a tag that is cut so.
@@ -57,12 +45,10 @@ fn bare(cut: Cut) -> Place
 fn place_in(file: &[u8]) -> Place
     ensures { result ≡ place_in file.now }
 {
-    let found = ape::find_footer(file);
-    let Footer::At(footer) = found else {
+    let Some(footer) = ape::find_footer(file) else {
         return bare(ape_replace::cut_audio(file, file.len()));
     };
-    let s = frame::ape_tag_start(file, footer);
-    let TagStart::At(start) = s else {
+    let Some(start) = frame::ape_tag_start(file, footer) else {
         return bare(ape_replace::cut_audio(file, file.len()));
     };
     Place {
@@ -81,10 +67,10 @@ fn put_within(out: &mut [u8], src: &[u8], budget: usize) -> usize
         × (out.new ≡ over (take budget src.now) out.old) }
 {
     if budget < src.len() {
-        lists::put(out, 0, &src[0..budget]);
+        lists::put_rising(out, 0, &src[0..budget]);
         return 0;
     }
-    lists::put(out, 0, src);
+    lists::put_rising(out, 0, src);
     budget - src.len()
 }
 
@@ -165,7 +151,7 @@ fn found_then(total: usize, end: usize, new: usize, budget: usize) -> Rewritten
     }
     Rewritten::Stopped {
         end,
-        length: greatest(total, end + budget),
+        length: total.max(end + budget),
     }
 }
 
@@ -176,24 +162,24 @@ fn rewrite_items(
     area: &[u8],
     count: usize,
     budget: usize,
-) -> Rewritten
+) -> Result<Rewritten, Refusal>
     requires { (total ≤ length buf.old) × (total ≤ 16777216) × (is_some (parse count area.now) ≡ true) }
     ensures { let plan = room_plan (take total buf.old) (items_in count area.now) (length buf.old) in
         (result ≡ rewrite_answer total budget plan) × (buf.new ≡ rewrite_buffer budget plan buf.old) }
 {
     let place = place_in(&buf[0..total]);
     if unwritten(place.tagged, count) {
-        return found_then(total, total, total, budget);
+        return Ok(found_then(total, total, total, budget));
     }
     let new = new_length(place, ape_write::tag_length(area.len(), count));
     if buf.len() < new {
-        return Rewritten::Refused(Refusal::NoRoom);
+        return Err(Refusal::NoRoom);
     }
     if replies::FILE_LIMIT < new {
-        return Rewritten::Refused(Refusal::NoRoom);
+        return Err(Refusal::NoRoom);
     }
     put_tail(buf, place, area, count, budget);
-    found_then(total, place.end, new, budget)
+    Ok(found_then(total, place.end, new, budget))
 }
 
 // What is found where power fails after `budget` writes: the end of the file of `total` bytes at the front of `buf` is rewritten by the items of the area,
@@ -204,18 +190,18 @@ pub fn rewrite_within(
     area: &[u8],
     count: usize,
     budget: usize,
-) -> Rewritten
+) -> Result<Rewritten, Refusal>
     ensures { let plan = rewrite_plan buf.old total area.now count in
         (result ≡ rewrite_answer total budget plan) × (buf.new ≡ rewrite_buffer budget plan buf.old) }
 {
     if buf.len() < total {
-        return Rewritten::Refused(Refusal::NoRoom);
+        return Err(Refusal::NoRoom);
     }
     if replies::FILE_LIMIT < total {
-        return Rewritten::Refused(Refusal::FileTooLong);
+        return Err(Refusal::FileTooLong);
     }
     if !items::well_formed(area, count) {
-        return Rewritten::Refused(Refusal::MalformedArea);
+        return Err(Refusal::MalformedArea);
     }
     rewrite_items(buf, total, area, count, budget)
 }
@@ -224,7 +210,12 @@ pub fn rewrite_within(
 const UNLIMITED: usize = 0xFFFF_FFFF_FFFF_FFFF;
 
 // The same with no limit on the writes: the first place that was written, and the new length. Refusals 5 for a length past the buffer, then 1, 12 and 5.
-pub fn rewrite_ape_tail(buf: &mut [u8], total: usize, area: &[u8], count: usize) -> Rewritten
+pub fn rewrite_ape_tail(
+    buf: &mut [u8],
+    total: usize,
+    area: &[u8],
+    count: usize,
+) -> Result<Rewritten, Refusal>
     ensures { let plan = rewrite_plan buf.old total area.now count in
         (result ≡ whole_answer plan) × (buf.new ≡ whole_buffer plan buf.old) }
 {

@@ -1,12 +1,8 @@
 // Replays recorded answers for crates tail_read and tail_write: the published Rust's of reading, and a second reading of requests 1 and 9 of the rest.
 #![tactic(auto)]
 
-use ape::TagRead;
 use std::io;
-use tail_read::Needs;
 use tail_write::Rewritten;
-use vectors::Replay;
-use words::is_hex;
 
 // `needed PROBE TOTAL NUMBER`: how many final bytes reading needs, or `none` where it is refused.
 fn needed(text: &[u8], at: usize) -> bool {
@@ -14,15 +10,10 @@ fn needed(text: &[u8], at: usize) -> bool {
     let n = words::hex_bytes(text, at, &mut probe);
     let total_at = words::next_word(text, at);
     let number = words::next_word(text, total_at);
-    let r = tail_read::bytes_needed(&probe[0..n], words::unsigned(text, total_at) as usize);
-    match r {
-        Needs::Bytes(k) => {
-            if lists::starts_with(text, number, b"none") {
-                return false;
-            }
-            k as u64 == words::unsigned(text, number)
-        }
-        Needs::Refused(_) => lists::starts_with(text, number, b"none"),
+    let none = lists::starts_with(text, number, b"none");
+    match tail_read::bytes_needed(&probe[..n], words::unsigned(text, total_at) as usize) {
+        Ok(k) => !none && k as u64 == words::unsigned(text, number),
+        Err(_) => none,
     }
 }
 
@@ -32,32 +23,23 @@ fn end(text: &[u8], at: usize) -> bool {
     let n = words::hex_bytes(text, at, &mut file);
     let count_at = words::next_word(text, at);
     let area_at = words::next_word(text, count_at);
+    let none = lists::starts_with(text, count_at, b"none");
     let mut area = [0u8; 8192];
-    let t = tail_read::read_from_end(&file[0..n], &mut area);
-    match t {
-        TagRead::NoTag => lists::starts_with(text, count_at, b"none"),
-        TagRead::Items { count, length } => {
-            if lists::starts_with(text, count_at, b"none") {
-                return false;
-            }
-            if count as u64 != words::unsigned(text, count_at) {
-                return false;
-            }
-            if 8192 < length {
-                return false;
-            }
-            is_hex(text, area_at, &area[0..length])
+    match tail_read::read_from_end(&file[..n], &mut area) {
+        Ok(Some(size)) => {
+            !none
+                && size.count as u64 == words::unsigned(text, count_at)
+                && words::is_front(text, area_at, &area, size.length)
         }
-        TagRead::Refused(_) => false,
+        Ok(None) => none,
+        Err(_) => false,
     }
 }
 
-// Whether the words from this place on are the first place that is written, and the bytes of the file that is found.
-fn is_found(text: &[u8], at: usize, end: usize, file: &[u8]) -> bool {
-    if end as u64 != words::unsigned(text, at) {
-        return false;
-    }
-    is_hex(text, words::next_word(text, at), file)
+// Whether the words from this place on are the first place that is written, and the file of this length that is found.
+fn is_found(text: &[u8], at: usize, end: usize, buf: &[u8], length: usize) -> bool {
+    end as u64 == words::unsigned(text, at)
+        && words::is_front(text, words::next_word(text, at), buf, length)
 }
 
 // `rewrite FILE COUNT AREA END FILE`.
@@ -69,14 +51,12 @@ fn rewrite(text: &[u8], at: usize) -> bool {
     let mut area = [0u8; 2048];
     let m = words::hex_bytes(text, area_at, &mut area);
     let count = words::unsigned(text, count_at) as usize;
-    let w = tail_write::rewrite_ape_tail(&mut buf, n, &area[0..m], count);
-    let Rewritten::Done { end, length } = w else {
-        return false;
-    };
-    if 4096 < length {
-        return false;
+    match tail_write::rewrite_ape_tail(&mut buf, n, &area[..m], count) {
+        Ok(Rewritten::Done { end, length }) => {
+            is_found(text, words::next_word(text, area_at), end, &buf, length)
+        }
+        _ => false,
     }
-    is_found(text, words::next_word(text, area_at), end, &buf[0..length])
 }
 
 // `within FILE COUNT AREA BUDGET END FILE`: fewer writes than there are.
@@ -90,49 +70,32 @@ fn within(text: &[u8], at: usize) -> bool {
     let m = words::hex_bytes(text, area_at, &mut area);
     let count = words::unsigned(text, count_at) as usize;
     let budget = words::unsigned(text, budget_at) as usize;
-    let w = tail_write::rewrite_within(&mut buf, n, &area[0..m], count, budget);
-    let Rewritten::Stopped { end, length } = w else {
-        return false;
-    };
-    if 4096 < length {
-        return false;
+    match tail_write::rewrite_within(&mut buf, n, &area[..m], count, budget) {
+        Ok(Rewritten::Stopped { end, length }) => {
+            is_found(text, words::next_word(text, budget_at), end, &buf, length)
+        }
+        _ => false,
     }
-    is_found(
-        text,
-        words::next_word(text, budget_at),
-        end,
-        &buf[0..length],
-    )
 }
 
 // Whether the answer in the line at this place is the library's.
 fn agrees(text: &[u8], at: usize) -> bool {
     let from = words::next_word(text, at);
     if lists::starts_with(text, at, b"needed ") {
-        return needed(text, from);
+        needed(text, from)
+    } else if lists::starts_with(text, at, b"end ") {
+        end(text, from)
+    } else if lists::starts_with(text, at, b"rewrite ") {
+        rewrite(text, from)
+    } else if lists::starts_with(text, at, b"within ") {
+        within(text, from)
+    } else {
+        false
     }
-    if lists::starts_with(text, at, b"end ") {
-        return end(text, from);
-    }
-    if lists::starts_with(text, at, b"rewrite ") {
-        return rewrite(text, from);
-    }
-    if lists::starts_with(text, at, b"within ") {
-        return within(text, from);
-    }
-    false
-}
-
-fn replay(text: &[u8]) -> Replay {
-    let mut r = vectors::start(text);
-    while r.at < text.len() {
-        r = vectors::counted(text, r, agrees(text, r.at));
-    }
-    r
 }
 
 fn main(rt: HostRuntime) -> io::Result<()> {
     let mut text = vectors::buffer();
     let n = input::read_full(&rt, &mut text)?;
-    vectors::report(&rt, b"tails", replay(&text[..n]))
+    vectors::report(&rt, b"tails", vectors::replay_all(&text[..n], agrees))
 }

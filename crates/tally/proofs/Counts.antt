@@ -2,7 +2,7 @@
 use Prim.Native.Nat.{ℕ, zero, suc, ◌+◌, ◌≤◌, ◌<◌}
 use native.Mathlib.Numerals.{add-one}
 use native.Mathlib.Omega.{arith}
-use mathlib.Core.Path.{◌≡◌, refl, sym, ap, ◌∙◌}
+use mathlib.Core.Path.{◌≡◌, refl, ◌∙◌}
 use mathlib.Core.Bool.{Bool, true, false, cond}
 use mathlib.Core.List.{List, [], ◌∷◌}
 use lib.ListN.{length, get_or, take, drop, length-drop, drop_of_length-le}
@@ -30,10 +30,6 @@ module _ (p : ℕ → Bool) where
       → count p (take (k + 1) (drop at gs)) ≡ count p (take k (drop at gs)) + cond (p (get_or gs (at + k) 0)) 1 0
   count-gather gs at k h =
       rw (add-one, count-last (drop at gs) k (simp length-drop (omega arith)), get_or-drop)
-
-  pub count-nothing : (gs : List ℕ) → count p (take 0 gs) ≡ 0
-  unfolding count
-  count-nothing gs = refl
 
   -- a block, and what stands behind it
   pub count-block : (gs : List ℕ) (at w : ℕ) → count p (drop at gs) ≡ count p (take w (drop at gs)) + count p (drop (at + w) gs)

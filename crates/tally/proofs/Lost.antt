@@ -2,15 +2,15 @@
 use Prim.Native.Nat.{ℕ, zero, suc, ◌+◌, ◌-◌, ◌≤◌, ◌<◌, min}
 use native.Mathlib.Omega.{arith}
 use mathlib.Core.Path.{◌≡◌, refl, sym, ap, ◌∙◌}
-use mathlib.Core.Logic.{◌↔◌, inl, inr}
+use mathlib.Core.Logic.{inl, inr}
 use mathlib.Core.Bool.{Bool, true, false, cond}
 use mathlib.Core.List.{List, [], ◌∷◌, map}
 use lib.ListN.{get_or}
 use lib.Dec.{leb, ltb}
 use lib.IntN.{ℤ, pos, negsuc, ◌+ℤ◌}
-use borrow.Author.Tests.{leb-true, leb-false, ltb-true, ltb-false, lt-ltb, le-ltb, lt-leb}
+use borrow.Author.Tests.{leb-false, ltb-true, ltb-false, lt-ltb, le-ltb, lt-leb}
 use Rattle.lists.specs.Bytes.{Small}
-use Rattle.integers.proofs.Parts.{up, down, sum-parts, le_parts, parts-le}
+use Rattle.integers.proofs.Parts.{sum-parts, le_parts, parts-le}
 use Rattle.frame.specs.Gain.{adjust}
 use Rattle.frame.specs.Steps.{back, Lands, InRange, Kept}
 use Rattle.frame.specs.declared.GainMode.{GainMode}

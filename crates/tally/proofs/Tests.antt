@@ -5,9 +5,9 @@ use mathlib.Core.Path.{◌≡◌, refl, sym, ap, ◌∙◌}
 use mathlib.Core.Bool.{Bool, true, false, ◌&&◌, ◌||◌}
 use mathlib.Core.List.{List}
 use lib.Dec.{leb, ltb}
-use lib.IntN.{ℤ, pos, negsuc, sub_ℕ}
+use lib.IntN.{pos, negsuc, sub_ℕ}
 use lib.Signed.{lt_z}
-use borrow.Author.Tests.{leb-true, leb-false, ltb-true, ltb-false, lt-ltb, le-ltb, le-leb, lt-leb}
+use borrow.Author.Tests.{leb-true, leb-false, ltb-true, ltb-false, lt-ltb, le-ltb, le-leb}
 use Rattle.lists.specs.Bytes.{Small}
 use Rattle.tally.specs.Tally.{count, within, is_low, is_high, is_lost}
 use Rattle.tally.proofs.Counts.{count-never, count_same}

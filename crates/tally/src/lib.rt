@@ -6,6 +6,7 @@ ghost use Rattle.integers.specs.Apart.{whole_of};
 ghost use Rattle.tally.specs.Tally.{count, within, is_low, is_high, is_lost, tally_of, saturated_of};
 
 use frame::{GainMode, GainSteps};
+use gains::Moving;
 use integers::Apart;
 use values::Range;
 
@@ -24,12 +25,7 @@ pub struct Tallied {
 fn one_within(gain: u8, over: u8, most: u8) -> u8
     ensures { (result ≡ cond (within over most gain) 1 0) × (result ≤ 1) }
 {
-    if over < gain {
-        if gain <= most {
-            return 1;
-        }
-    }
-    0
+    u8::from(over < gain && gain <= most)
 }
 
 // How many of the 240 gains from `at` are above `over` and not above `most`. It is counted in a byte, so that sixteen gains are taken at once.
@@ -37,11 +33,9 @@ fn count_block(gains: &[u8], at: usize, over: u8, most: u8) -> u8
     requires { at + 240 ≤ length gains.now }
     ensures { result ≡ count (within over most) (take 240 (drop at gains.now)) }
 {
-    let mut n: u8 = 0;
-    let mut k = 0;
-    while k < 240 {
+    let mut n = 0;
+    for k in 0..240 {
         n += one_within(gains[at + k], over, most);
-        k += 1;
     }
     n
 }
@@ -50,15 +44,13 @@ fn count_block(gains: &[u8], at: usize, over: u8, most: u8) -> u8
 fn count_within(gains: &[u8], over: u8, most: u8) -> usize
     ensures { result ≡ count (within over most) gains.now }
 {
-    let mut n: usize = 0;
-    let mut at = 0;
-    while 240 <= gains.len() - at {
-        n += count_block(gains, at, over, most) as usize;
-        at += 240;
+    let blocks = gains.len() / 240;
+    let mut n = 0;
+    for i in 0..blocks {
+        n += usize::from(count_block(gains, i * 240, over, most));
     }
-    while at < gains.len() {
-        n += one_within(gains[at], over, most) as usize;
-        at += 1;
+    for at in blocks * 240..gains.len() {
+        n += usize::from(one_within(gains[at], over, most));
     }
     n
 }
@@ -70,28 +62,26 @@ fn held(gains: &[u8], steps: Apart, range: Range) -> Tallied
         (result.low ≡ count (is_low z) gs) × (result.high ≡ count (is_high z) gs) × (result.lost ≡ count (is_lost z) gs)
         × (result.least ≡ range.least) × (result.greatest ≡ range.greatest) }
 {
-    let least = range.least;
-    let greatest = range.greatest;
+    let Range { least, greatest } = range;
     if steps.down {
         let down = frame::within_byte(steps.by, 254);
-        let low = count_within(gains, 0, down);
-        let lost = count_within(gains, 0, down + 1);
-        return Tallied {
-            low,
+        Tallied {
+            low: count_within(gains, 0, down),
             high: 0,
-            lost,
+            lost: count_within(gains, 0, down + 1),
             least,
             greatest,
-        };
-    }
-    let up = frame::within_byte(steps.by, 255);
-    let high = count_within(gains, 255 - up, 255);
-    Tallied {
-        low: 0,
-        high,
-        lost: high,
-        least,
-        greatest,
+        }
+    } else {
+        let up = frame::within_byte(steps.by, 255);
+        let high = count_within(gains, 255 - up, 255);
+        Tallied {
+            low: 0,
+            high,
+            lost: high,
+            least,
+            greatest,
+        }
     }
 }
 
@@ -99,20 +89,21 @@ fn held(gains: &[u8], steps: Apart, range: Range) -> Tallied
 pub fn tally(gains: &[u8], steps: GainSteps, mode: GainMode) -> Tallied
     ensures { result ≡ tally_of mode steps.0 gains.now }
 {
-    let range = gains::range_after(gains, &gains[0..0], steps, GainSteps(0), mode);
+    let moves = Moving {
+        left: steps,
+        right: GainSteps(0),
+        mode,
+    };
+    let range = gains::range_after(gains, &[], moves);
     match mode {
         GainMode::Saturating => held(gains, integers::take_apart(steps.0), range),
-        GainMode::Wrapping => {
-            let least = range.least;
-            let greatest = range.greatest;
-            Tallied {
-                low: 0,
-                high: 0,
-                lost: 0,
-                least,
-                greatest,
-            }
-        }
+        GainMode::Wrapping => Tallied {
+            low: 0,
+            high: 0,
+            lost: 0,
+            least: range.least,
+            greatest: range.greatest,
+        },
     }
 }
 
@@ -120,8 +111,5 @@ pub fn tally(gains: &[u8], steps: GainSteps, mode: GainMode) -> Tallied
 pub fn saturated(t: Tallied) -> bool
     ensures { result ≡ saturated_of t }
 {
-    if 0 < t.low {
-        return true;
-    }
-    0 < t.high
+    0 < t.low || 0 < t.high
 }

@@ -3,24 +3,19 @@
 
 use frame::{GainMode, GainSteps};
 use std::io;
-use vectors::Replay;
 
 // `end FILE PLACE`: where the sound of the file ends.
 fn end(text: &[u8], at: usize) -> bool {
     let mut file = [0u8; 1024];
     let n = words::hex_bytes(text, at, &mut file);
-    frame::find_audio_end(&file[0..n]) as u64 == words::unsigned(text, words::next_word(text, at))
+    frame::find_audio_end(&file[..n]) as u64 == words::unsigned(text, words::next_word(text, at))
 }
 
 // The gains from `first` on, each one more than the last, modulo 256.
 fn gains_from(first: u64) -> [u8; 256] {
     let mut gains = [0u8; 256];
-    let mut i = 0;
-    let mut g = first % 256;
-    while i < 256 {
-        gains[i] = (g % 256) as u8;
-        g = (g + 1) % 256;
-        i += 1;
+    for (gain, g) in gains.iter_mut().zip(first % 256..) {
+        *gain = (g % 256) as u8;
     }
     gains
 }
@@ -43,44 +38,28 @@ fn tally(text: &[u8], at: usize) -> bool {
     let n = (last - first + 1) as usize;
     let gains = gains_from(first);
     let mode = GainMode::from_wrap(lists::starts_with(text, at, b"W"));
-    let t = tally::tally(&gains[0..n], GainSteps(words::signed(text, steps_at)), mode);
-    if t.low as u64 != words::unsigned(text, low) {
-        return false;
-    }
-    if t.high as u64 != words::unsigned(text, high) {
-        return false;
-    }
-    if t.lost as u64 != words::unsigned(text, lost) {
-        return false;
-    }
-    if t.least as u64 != words::unsigned(text, least) {
-        return false;
-    }
-    t.greatest as u64 == words::unsigned(text, greatest)
+    let t = tally::tally(&gains[..n], GainSteps(words::signed(text, steps_at)), mode);
+    t.low as u64 == words::unsigned(text, low)
+        && t.high as u64 == words::unsigned(text, high)
+        && t.lost as u64 == words::unsigned(text, lost)
+        && u64::from(t.least) == words::unsigned(text, least)
+        && u64::from(t.greatest) == words::unsigned(text, greatest)
 }
 
 // Whether the answer in the line at this place is the library's.
 fn agrees(text: &[u8], at: usize) -> bool {
     let from = words::next_word(text, at);
     if lists::starts_with(text, at, b"end ") {
-        return end(text, from);
+        end(text, from)
+    } else if lists::starts_with(text, at, b"tally ") {
+        tally(text, from)
+    } else {
+        false
     }
-    if lists::starts_with(text, at, b"tally ") {
-        return tally(text, from);
-    }
-    false
-}
-
-fn replay(text: &[u8]) -> Replay {
-    let mut r = vectors::start(text);
-    while r.at < text.len() {
-        r = vectors::counted(text, r, agrees(text, r.at));
-    }
-    r
 }
 
 fn main(rt: HostRuntime) -> io::Result<()> {
     let mut text = vectors::buffer();
     let n = input::read_full(&rt, &mut text)?;
-    vectors::report(&rt, b"tally", replay(&text[..n]))
+    vectors::report(&rt, b"tally", vectors::replay_all(&text[..n], agrees))
 }

@@ -1,4 +1,5 @@
 -- What is found after each write, and in the end: document 02's claims.
+use Rattle.std.specs.Prelude.{Option, None, Some}
 use Prim.Native.Nat.{ℕ, suc, ◌+◌, ◌-◌, ◌≤◌, ◌<◌, max}
 use native.Mathlib.Omega.{arith}
 use mathlib.Core.Path.{◌≡◌, refl, sym, ap, ◌∙◌}
@@ -11,12 +12,8 @@ use borrow.Author.Tests.{leb-true, eqb-true}
 use Rattle.lists.specs.Write.{splice}
 use Rattle.lists.proofs.Halves.{length-splice}
 use Rattle.frame.specs.Tail.{ends_with_id3v1, tag_start}
-use Rattle.frame.specs.declared.TagStart.{TagStart}
-use Rattle.frame.specs.declared.TagStart.TheVariants.{At as StartAt, Nowhere as NoStart}
 use Rattle.items.specs.Items.{Item, items_in}
 use Rattle.ape.specs.Tag.{Split, find_footer, footed, started, moved, split, serialize, file_of, replaced}
-use Rattle.ape.specs.declared.Footer.{Footer}
-use Rattle.ape.specs.declared.Footer.TheVariants.{At, Nowhere}
 use Rattle.ape_replace.proofs.Cutting.{part-front, cut-is}
 use Rattle.tail_write.specs.Rewrite.{tagless, start_in, block_before, audio_end, behind, Tail, tail, tail_of, length_of, after, length_after}
 use Rattle.torn_tags.specs.Claims.{Rewrites, Claims}
@@ -106,34 +103,34 @@ module _ (s : List ℕ) where
   unfolding tagless split
   tagless-split e = go (find_footer s) e
     where
-      begun : (f : ℕ) (t : TagStart) → started t true (λ a. false) ≡ true → started t (moved s []) (λ a. moved (take a s) (drop (f + 32) s)) ≡ moved s []
-      begun f NoStart e = refl
-      begun f (StartAt a) e = absurd (true≢false (sym e))
+      begun : (f : ℕ) (t : Option ℕ) → started t true (λ a. false) ≡ true → started t (moved s []) (λ a. moved (take a s) (drop (f + 32) s)) ≡ moved s []
+      begun f None e = refl
+      begun f (Some a) e = absurd (true≢false (sym e))
 
-      go : (x : Footer) → footed x true (λ f. started (tag_start s f) true (λ a. false)) ≡ true
+      go : (x : Option ℕ) → footed x true (λ f. started (tag_start s f) true (λ a. false)) ≡ true
           → footed x (moved s []) (λ f. started (tag_start s f) (moved s []) (λ a. moved (take a s) (drop (f + 32) s))) ≡ moved s []
-      go Nowhere e = refl
-      go (At f) e = begun f (tag_start s f) e
+      go None e = refl
+      go (Some f) e = begun f (tag_start s f) e
 
   -- a block before the tag: there is a tag, the block ends where the tag starts, and replacement parts what precedes the start
   block-is : block_before s ≡ true → (tagless s ≡ false) × (ends_with_id3v1 (take (start_in s) s) ≡ true) × ((split s).front ++ (split s).back ≡ take (start_in s) s)
   unfolding tagless start_in block_before split
   block-is e = go (find_footer s) e
     where
-      begun : (f : ℕ) (t : TagStart) → started t false (λ a. leb (length s) (f + 32) && ends_with_id3v1 (take a s)) ≡ true
+      begun : (f : ℕ) (t : Option ℕ) → started t false (λ a. leb (length s) (f + 32) && ends_with_id3v1 (take a s)) ≡ true
           → let a = started t (length s) (λ a. a) in let x = started t (moved s []) (λ a. moved (take a s) (drop (f + 32) s)) in
           (started t true (λ a. false) ≡ false) × (ends_with_id3v1 (take a s) ≡ true) × (x.front ++ x.back ≡ take a s)
-      begun f NoStart e = absurd (true≢false (sym e))
-      begun f (StartAt a) e =
+      begun f None e = absurd (true≢false (sym e))
+      begun f (Some a) e =
           let (l, b) = (and-eq-true_iff (leb (length s) (f + 32)) (ends_with_id3v1 (take a s))).0 e in
           (refl, b, rw (drop_of_length-le s {i = f + 32} (leb-true _ _ l)) (moved-whole (take a s)))
 
-      go : (x : Footer) → footed x false (λ f. started (tag_start s f) false (λ a. leb (length s) (f + 32) && ends_with_id3v1 (take a s))) ≡ true
+      go : (x : Option ℕ) → footed x false (λ f. started (tag_start s f) false (λ a. leb (length s) (f + 32) && ends_with_id3v1 (take a s))) ≡ true
           → let a = footed x (length s) (λ f. started (tag_start s f) (length s) (λ a. a)) in
           let y = footed x (moved s []) (λ f. started (tag_start s f) (moved s []) (λ a. moved (take a s) (drop (f + 32) s))) in
           (footed x true (λ f. started (tag_start s f) true (λ a. false)) ≡ false) × (ends_with_id3v1 (take a s) ≡ true) × (y.front ++ y.back ≡ take a s)
-      go Nowhere e = absurd (true≢false (sym e))
-      go (At f) e = begun f (tag_start s f) e
+      go None e = absurd (true≢false (sym e))
+      go (Some f) e = begun f (tag_start s f) e
 
   -- what precedes the new tag in replacement is a front of the file
   front-is : take (length (split s).front) s ≡ (split s).front

@@ -4,7 +4,7 @@ use native.Mathlib.Omega.{arith}
 use native.Mathlib.Nat.{add-zero}
 use mathlib.Core.Path.{◌≡◌, refl, sym, ap, ◌∙◌}
 use mathlib.Core.Bool.{Bool, true, false, ◌&&◌, cond, and-false, true≢false}
-use mathlib.Core.Option.{none}
+use Rattle.std.specs.Prelude.{None, Some}
 use mathlib.Core.List.{List, [], ◌∷◌, ◌++◌, append_assoc}
 use lib.ListN.{length, take, drop, get_or, length-append, length-drop, take-append-drop, get_or-append}
 use lib.Seq.{length-take-le, take-length, get_or-take}
@@ -14,13 +14,11 @@ use Rattle.lists.specs.Bytes.{starts_with, place_of, all}
 use Rattle.lists.specs.Le.{read_u32}
 use Rattle.lists.specs.Write.{part}
 use Rattle.frame.specs.Tail.{preamble, id3v1_mark, stands_at, ends_with_id3v1, has_header, start_of, tag_start}
-use Rattle.frame.specs.declared.TagStart.TheVariants.{At as StartAt}
 use Rattle.frame.proofs.Tails.{stands-in, start-there}
 use Rattle.items.specs.Items.{Item, item_bytes, area_bytes, head_at, head, parse}
 use Rattle.utf8.specs.Utf8.{number_of, class_at, run, step_of, valid_from, valid}
 use Rattle.items.proofs.Area.{length-area}
 use Rattle.ape.specs.Tag.{block_bytes, header_flags, footer_flags, tag_bytes, serialize, find_footer, size_at, count_at, area_at, moved, split}
-use Rattle.ape.specs.declared.Footer.TheVariants.{At, Nowhere}
 use Rattle.ape.proofs.Files.{footer-within}
 use Rattle.ape.proofs.Tail.{at-seam}
 use Rattle.calls.specs.Gate.{header_at, is_version2, is_header, is_headed, fit, item_valid, all_valid, gate_items}
@@ -70,7 +68,7 @@ module _ (s p : List ℕ) (within : length p ≤ length s) where
   same_length : length (p ++ r) ≡ length s
   same_length = length-append p r ∙ omega (arith, rest-long)
 
-  footer-behind : (f : ℕ) → find_footer s ≡ At f → length p ≤ f → find_footer (p ++ r) ≡ At f
+  footer-behind : (f : ℕ) → find_footer s ≡ Some f → length p ≤ f → find_footer (p ++ r) ≡ Some f
   unfolding find_footer
   footer-behind f e h = go (stands_at 32 preamble s) refl (stands_at 160 preamble s && ends_with_id3v1 s) refl e
     where
@@ -78,8 +76,8 @@ module _ (s p : List ℕ) (within : length p ≤ length s) where
       inside = footer-within s f e
 
       go : (x : Bool) → stands_at 32 preamble s ≡ x → (y : Bool) → (stands_at 160 preamble s && ends_with_id3v1 s) ≡ y
-          → cond x (At (length s - 32)) (cond y (At (length s - 160)) Nowhere) ≡ At f
-          → cond (stands_at 32 preamble (p ++ r)) (At (length (p ++ r) - 32)) (cond (stands_at 160 preamble (p ++ r) && ends_with_id3v1 (p ++ r)) (At (length (p ++ r) - 160)) Nowhere) ≡ At f
+          → cond x (Some (length s - 32)) (cond y (Some (length s - 160)) None) ≡ Some f
+          → cond (stands_at 32 preamble (p ++ r)) (Some (length (p ++ r) - 32)) (cond (stands_at 160 preamble (p ++ r) && ends_with_id3v1 (p ++ r)) (Some (length (p ++ r) - 160)) None) ≡ Some f
       go true q y d c =
           let z : length s - 32 ≡ f = cc in
           rw (stands-behind 32 preamble (omega (arith, inside)), q, same_length) c
@@ -133,7 +131,7 @@ fails true true true true h e = absurd (true≢false e)
 
 -- ---- a tag with a header that is torn behind the numbers of the new header
 
-module _ (s w rest : List ℕ) (f a k z n : ℕ) (at : find_footer s ≡ At f) (e : tag_start s f ≡ StartAt a) (headed : has_header (read_u32 s (f + 20)) ≡ true)
+module _ (s w rest : List ℕ) (f a k z n : ℕ) (at : find_footer s ≡ Some f) (e : tag_start s f ≡ Some a) (headed : has_header (read_u32 s (f + 20)) ≡ true)
     (w-is : w ≡ block_bytes z n header_flags ++ rest) (hz : z < 4294967296) (hn : n < 4294967296) (differ : (eqb z (size_at s f) && eqb n (count_at s f)) ≡ false)
     (least : 20 ≤ k) (h : k ≤ length w) (l : a + k ≤ f) where
   abbrev found : List ℕ
@@ -157,7 +155,7 @@ module _ (s w rest : List ℕ) (f a k z n : ℕ) (at : find_footer s ≡ At f) (
   found-is : found ≡ p ++ drop (length p) s
   found-is = sym (append_assoc (take a s) (take k w) (drop (a + k) s)) ∙ ap (λ (i : ℕ). p ++ drop i s) (sym p-long)
 
-  footer-is : find_footer found ≡ At f
+  footer-is : find_footer found ≡ Some f
   footer-is = ap find_footer found-is ∙ footer-behind s p p-within f at (omega (arith, p-long))
 
   number : (i : ℕ) → read_u32 found (f + i) ≡ read_u32 s (f + i)
@@ -166,7 +164,7 @@ module _ (s w rest : List ℕ) (f a k z n : ℕ) (at : find_footer s ≡ At f) (
   long : length found ≡ length s
   long = ap length found-is ∙ same_length s p p-within
 
-  start_is : tag_start found f ≡ StartAt a
+  start_is : tag_start found f ≡ Some a
   start_is =
       start-there found f (omega (arith, long, inside)) ∙ ap (λ (i : ℕ). start_of f i (read_u32 found (f + 20))) (number 12)
       ∙ ap (start_of f (read_u32 s (f + 12))) (number 20) ∙ sym (start-there s f inside) ∙ e
@@ -195,7 +193,7 @@ module _ (s w rest : List ℕ) (f a k z n : ℕ) (at : find_footer s ≡ At f) (
   unfolding fit
   unfit = rw headed-fails (simp and-false)
 
-  gate-none : gate_items found ≡ none
+  gate-none : gate_items found ≡ None
   unfolding gate_items
   gate-none = rw (footer-is, unfit)
 
@@ -205,7 +203,7 @@ module _ (s : List ℕ) (ts : List Item) where
   abbrev new : Tail
   new = tail_of s ts
 
-  footer-left : (f k : ℕ) → find_footer s ≡ At f → k ≤ length new.bytes → new.end + k ≤ f → find_footer (found_after s new k) ≡ At f
+  footer-left : (f k : ℕ) → find_footer s ≡ Some f → k ≤ length new.bytes → new.end + k ≤ f → find_footer (found_after s new k) ≡ Some f
   footer-left f k at h l =
       let q : List ℕ = take new.end s ++ take k new.bytes in
       let n : length q ≡ new.end + k =
@@ -214,9 +212,9 @@ module _ (s : List ℕ) (ts : List Item) where
       sym (append_assoc (take new.end s) (take k new.bytes) (drop (new.end + k) s)) ∙ ap (λ (i : ℕ). q ++ drop i s) (sym n) in
       ap find_footer is ∙ footer-behind s q (omega (arith, n, footer-within s f at)) f at (omega (arith, n))
 
-  gate-refuses : (f a k : ℕ) → find_footer s ≡ At f → tag_start s f ≡ StartAt a → has_header (read_u32 s (f + 20)) ≡ true
+  gate-refuses : (f a k : ℕ) → find_footer s ≡ Some f → tag_start s f ≡ Some a → has_header (read_u32 s (f + 20)) ≡ true
       → 0 < length ts → length (area_bytes ts) ≤ 16777216 → (eqb (length (area_bytes ts) + 32) (size_at s f) && eqb (length ts) (count_at s f)) ≡ false
-      → 20 ≤ k → k ≤ length new.bytes → new.end + k ≤ f → gate_items (found_after s new k) ≡ none
+      → 20 ≤ k → k ≤ length new.bytes → new.end + k ≤ f → gate_items (found_after s new k) ≡ None
   gate-refuses f a k at e headed there fits differ least h l =
       let back : List ℕ = part (f + 32) (length s) s in
       let is : tail_of s ts ≡ tail a (serialize ts ++ back) = tail-tagged s ts f a at e in

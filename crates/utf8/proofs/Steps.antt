@@ -43,7 +43,7 @@ module _ (m low high : ℕ) (s : List ℕ) (at : ℕ) where
 
     pub bad-second : (n : ℕ) → m ≡ suc n → begins 0x80 0xBF (drop (at + 1) s) ≡ false → Bad 2 ≡ follow (class (suc m) low high) (drop at s)
     unfolding run
-    bad-second n z e = sym (rw (z, b₁, drop-drop, e, eqb-suc-suc, eqb-zero-suc))
+    bad-second n z e = sym (rw (z, b₁, drop-drop 1 at s, e, eqb-suc-suc, eqb-zero-suc))
 
     module _ (b₂ : begins 0x80 0xBF (drop (at + 1) s) ≡ true) where
       pub good-second : m ≡ 1 → Good 3 ≡ follow (class (suc m) low high) (drop at s)

@@ -22,22 +22,15 @@ pub struct Run {
     pub bad: usize,
 }
 
-fn wide(x: u8) -> usize
-    ensures { result ≡ x }
-{
-    x as usize
-}
-
 // The class number of a first byte.
 fn number_of(table: &[u8; 256], b: u8) -> u8
     requires { Classes table.now }
     ensures { result ≡ number_of b }
 {
-    let n = wide(b);
-    table[n]
+    table[usize::from(b)]
 }
 
-// Does a byte from low to high stand at this place?
+// Does a byte from low to high stand at this place? Each test returns by itself: joined by && they are slower.
 fn follows(s: &[u8], at: usize, low: u8, high: u8) -> bool
     ensures { result ≡ begins low high (drop at s.now) }
 {
@@ -50,40 +43,22 @@ fn follows(s: &[u8], at: usize, low: u8, high: u8) -> bool
     s[at] <= high
 }
 
-// A character of two bytes, whose second stands at `at` and lies from low to high: is it there?
-fn two(s: &[u8], at: usize, low: u8, high: u8) -> Part
-    ensures { result ≡ follow (class 1 low high) (drop at s.now) }
+// A character of which MORE bytes are to follow, whose second stands at `at` and lies from low to high: is it there? No loop, which is slower.
+fn character<const MORE: usize>(s: &[u8], at: usize, low: u8, high: u8) -> Part
+    requires { (at ≤ length s.now) × (1 ≤ MORE) × (MORE ≤ 3) }
+    ensures { result ≡ follow (class MORE low high) (drop at s.now) }
 {
     if !follows(s, at, low, high) {
         return Part::Bad(1);
     }
-    Part::Good(2)
-}
-
-// The same of three bytes.
-fn three(s: &[u8], at: usize, low: u8, high: u8) -> Part
-    requires { at ≤ length s.now }
-    ensures { result ≡ follow (class 2 low high) (drop at s.now) }
-{
-    if !follows(s, at, low, high) {
-        return Part::Bad(1);
+    if MORE == 1 {
+        return Part::Good(2);
     }
     if !follows(s, at + 1, 0x80, 0xBF) {
         return Part::Bad(2);
     }
-    Part::Good(3)
-}
-
-// The same of four bytes.
-fn four(s: &[u8], at: usize, low: u8, high: u8) -> Part
-    requires { at ≤ length s.now }
-    ensures { result ≡ follow (class 3 low high) (drop at s.now) }
-{
-    if !follows(s, at, low, high) {
-        return Part::Bad(1);
-    }
-    if !follows(s, at + 1, 0x80, 0xBF) {
-        return Part::Bad(2);
+    if MORE == 2 {
+        return Part::Good(3);
     }
     if !follows(s, at + 2, 0x80, 0xBF) {
         return Part::Bad(3);
@@ -91,7 +66,7 @@ fn four(s: &[u8], at: usize, low: u8, high: u8) -> Part
     Part::Good(4)
 }
 
-// What stands at this place. Each number is a row of table 3-7.
+// What stands at this place. Each number is a row of table 3-7; it is no enum, since the table is of bytes.
 pub fn step_by(table: &[u8; 256], s: &[u8], at: usize) -> Part
     requires { Classes table.now }
     ensures { result ≡ step_of (drop at s.now) }
@@ -103,14 +78,14 @@ pub fn step_by(table: &[u8; 256], s: &[u8], at: usize) -> Part
     let next = at + 1;
     match k {
         0 => Part::Good(1),
-        1 => two(s, next, 0x80, 0xBF),
-        2 => three(s, next, 0xA0, 0xBF),
-        3 => three(s, next, 0x80, 0xBF),
-        4 => three(s, next, 0x80, 0x9F),
-        5 => three(s, next, 0x80, 0xBF),
-        6 => four(s, next, 0x90, 0xBF),
-        7 => four(s, next, 0x80, 0xBF),
-        8 => four(s, next, 0x80, 0x8F),
+        1 => character::<1>(s, next, 0x80, 0xBF),
+        2 => character::<2>(s, next, 0xA0, 0xBF),
+        3 => character::<2>(s, next, 0x80, 0xBF),
+        4 => character::<2>(s, next, 0x80, 0x9F),
+        5 => character::<2>(s, next, 0x80, 0xBF),
+        6 => character::<3>(s, next, 0x90, 0xBF),
+        7 => character::<3>(s, next, 0x80, 0xBF),
+        8 => character::<3>(s, next, 0x80, 0x8F),
         _ => Part::Bad(1),
     }
 }
@@ -123,28 +98,12 @@ pub fn step(s: &[u8], at: usize) -> Part
     step_by(&table, s, at)
 }
 
-// The greater of two.
-fn greater(a: u8, b: u8) -> u8
-    ensures { (a ≤ result) × (b ≤ result) }
+// Whether N bytes from `at` are ASCII.
+fn plain<const N: usize>(s: &[u8], at: usize) -> bool
+    requires { at + N ≤ length s.now }
+    ensures { result ≡ plain (take N (drop at s.now)) }
 {
-    if a < b {
-        return b;
-    }
-    a
-}
-
-// Whether the 64 bytes from here are all ASCII. Their greatest is found without a branch, so the compiler takes sixteen at once.
-fn plain_block(s: &[u8], at: usize) -> bool
-    requires { at + 64 ≤ length s.now }
-    ensures { result ≡ true → Stretch s.now at (at + 64) }
-{
-    let mut m = 0;
-    let mut i = 0;
-    while i < 64 {
-        m = greater(m, s[at + i]);
-        i += 1;
-    }
-    m < 0x80
+    lists::all_of::<N, _>(s, at, |b| b < 0x80)
 }
 
 // Where the whole blocks of ASCII from here end.
@@ -152,14 +111,14 @@ fn blocks_end(s: &[u8], from: usize) -> usize
     requires { from ≤ length s.now }
     ensures { Stretch s.now from result }
 {
-    let mut at = from;
-    while 64 <= s.len() - at {
-        if !plain_block(s, at) {
+    let blocks = (s.len() - from) / 64;
+    for k in 0..blocks {
+        let at = from + k * 64;
+        if !plain::<64>(s, at) {
             return at;
         }
-        at += 64;
     }
-    at
+    from + blocks * 64
 }
 
 // Where the ASCII from here ends: whole blocks, then single bytes.
@@ -167,14 +126,12 @@ fn far_end(s: &[u8], from: usize) -> usize
     requires { from ≤ length s.now }
     ensures { Stretch s.now from result }
 {
-    let mut at = blocks_end(s, from);
-    while at < s.len() {
+    for at in blocks_end(s, from)..s.len() {
         if s[at] >= 0x80 {
             return at;
         }
-        at += 1;
     }
-    at
+    s.len()
 }
 
 // Where the ASCII from here ends. Blocks are tried only behind 32 bytes of it: among other characters few runs of ASCII are as long.
@@ -185,42 +142,12 @@ fn plain_end(s: &[u8], from: usize) -> usize
     if s.len() - from < 32 {
         return far_end(s, from);
     }
-    let mut i = 0;
-    while i < 32 {
+    for i in 0..32 {
         if s[from + i] >= 0x80 {
             return from + i;
         }
-        i += 1;
     }
     far_end(s, from + 32)
-}
-
-// Whether sixteen bytes from `at` are ASCII. All are looked at, so that the compiler tests them at once.
-fn plain_16(s: &[u8], at: usize) -> bool
-    requires { at + 16 ≤ length s.now }
-    ensures { result ≡ plain (take 16 (drop at s.now)) }
-{
-    let mut other = false;
-    let mut n = 0;
-    while n < 16 {
-        other = other | !(s[at + n] < 0x80);
-        n += 1;
-    }
-    !other
-}
-
-// The same of eight.
-fn plain_8(s: &[u8], at: usize) -> bool
-    requires { at + 8 ≤ length s.now }
-    ensures { result ≡ plain (take 8 (drop at s.now)) }
-{
-    let mut other = false;
-    let mut n = 0;
-    while n < 8 {
-        other = other | !(s[at + n] < 0x80);
-        n += 1;
-    }
-    !other
 }
 
 // How far eights of ASCII reach from the front of a short text. The last eight may reach back into the first.
@@ -228,17 +155,14 @@ fn front_by_eights(s: &[u8]) -> usize
     requires { length s.now ≤ 16 }
     ensures { Stretch s.now 0 result }
 {
-    if s.len() < 8 {
+    if s.len() < 8 || !plain::<8>(s, 0) {
         return 0;
     }
-    let back = s.len() - 8;
-    if !plain_8(s, 0) {
-        return 0;
+    if plain::<8>(s, s.len() - 8) {
+        s.len()
+    } else {
+        8
     }
-    if !plain_8(s, back) {
-        return 8;
-    }
-    s.len()
 }
 
 // The same by sixteens, of which the last may reach back into those before.
@@ -247,17 +171,17 @@ fn front_by_sixteens(s: &[u8]) -> usize
     ensures { Stretch s.now 0 result }
 {
     let back = s.len() - 16;
-    let mut end = 0;
-    while end < back {
-        if !plain_16(s, end) {
-            return end;
+    let blocks = back.div_ceil(16);
+    for k in 0..blocks {
+        if !plain::<16>(s, k * 16) {
+            return k * 16;
         }
-        end += 16;
     }
-    if !plain_16(s, back) {
-        return end;
+    if plain::<16>(s, back) {
+        s.len()
+    } else {
+        blocks * 16
     }
-    s.len()
 }
 
 // From how many bytes on ASCII is passed in longer blocks.
@@ -269,19 +193,16 @@ fn front_end(s: &[u8], from: usize) -> usize
     requires { from ≤ length s.now }
     ensures { Stretch s.now from result }
 {
-    if 0 < from {
-        return from;
+    if 0 < from || s.len() >= LONG {
+        from
+    } else if s.len() < 16 {
+        front_by_eights(s)
+    } else {
+        front_by_sixteens(s)
     }
-    if s.len() < 16 {
-        return front_by_eights(s);
-    }
-    if s.len() >= LONG {
-        return from;
-    }
-    front_by_sixteens(s)
 }
 
-// Where the characters of three bytes from here end, of the row that has most of them.
+// Where the characters of three bytes from here end, of the row that has most of them. No `for`: each turn goes on by a character.
 fn threes_end(table: &[u8; 256], s: &[u8], from: usize) -> usize
     requires { (Classes table.now) × (from ≤ length s.now) }
     ensures { Stretch s.now from result }
@@ -291,8 +212,7 @@ fn threes_end(table: &[u8; 256], s: &[u8], from: usize) -> usize
         if number_of(table, s[at]) != 3 {
             return at;
         }
-        let x = three(s, at + 1, 0x80, 0xBF);
-        let Part::Good(n) = x else {
+        let Part::Good(n) = character::<2>(s, at + 1, 0x80, 0xBF) else {
             return at;
         };
         at += n;
@@ -300,7 +220,8 @@ fn threes_end(table: &[u8; 256], s: &[u8], from: usize) -> usize
     at
 }
 
-// Where the characters from here end, and how many bytes the ill-formed part there has: none at the end of the text.
+// Where the characters from here end, and how many bytes the ill-formed part there has: none at the end of the text. No `for`: each turn goes on
+// by what stands there.
 pub fn run_from(table: &[u8; 256], s: &[u8], from: usize) -> Run
     requires { (Classes table.now) × (from ≤ length s.now) }
     ensures { Ran s.now from result.end result.bad }
@@ -311,8 +232,7 @@ pub fn run_from(table: &[u8; 256], s: &[u8], from: usize) -> Run
             at = plain_end(s, at + 1);
             continue;
         }
-        let x = step_by(table, s, at);
-        match x {
+        match step_by(table, s, at) {
             Part::Good(n) => {
                 at = threes_end(table, s, at + n);
             }
@@ -332,42 +252,25 @@ pub fn is_utf8_by(table: &[u8; 256], s: &[u8]) -> bool
     requires { Classes table.now }
     ensures { result ≡ valid s.now }
 {
-    let r = run_from(table, s, 0);
-    r.bad == 0
+    run_from(table, s, 0).bad == 0
 }
 
-// Whether every byte is, one after another.
-fn plain_each(s: &[u8]) -> bool
-    ensures { result ≡ plain s.now }
-{
-    let mut k = 0;
-    while k < s.len() {
-        if !(s[k] < 0x80) {
-            return false;
-        }
-        k += 1;
-    }
-    true
-}
-
-// The same, sixteen at a time where there are as many: the last sixteen, and then the blocks from the start, of which the last may reach
-// into those sixteen.
+// Whether every byte is ASCII, sixteen at a time where there are as many: the last sixteen, and then the blocks from the start, of which the
+// last may reach into those sixteen.
 fn is_plain(s: &[u8]) -> bool
     ensures { result ≡ plain s.now }
 {
     if s.len() < 16 {
-        return plain_each(s);
+        return s.iter().all(|&b| b < 0x80);
     }
     let last = s.len() - 16;
-    if !plain_16(s, last) {
+    if !plain::<16>(s, last) {
         return false;
     }
-    let mut at = 0;
-    while at < last {
-        if !plain_16(s, at) {
+    for k in 0..last.div_ceil(16) {
+        if !plain::<16>(s, k * 16) {
             return false;
         }
-        at += 16;
     }
     true
 }
@@ -376,13 +279,11 @@ fn is_plain(s: &[u8]) -> bool
 fn is_short_plain(s: &[u8]) -> bool
     ensures { result ≡ (ltb (length s.now) 512 && plain s.now) }
 {
-    if s.len() >= LONG {
-        return false;
-    }
-    is_plain(s)
+    s.len() < LONG && is_plain(s)
 }
 
-// Is the text well-formed UTF-8? Most texts that are set are short and ASCII: the table is not set up for them.
+// Is the text well-formed UTF-8? Most texts that are set are short and ASCII: the table is not set up for them. It is a copy: with the constant
+// borrowed, the compiler makes the loop over characters of two and four bytes slower.
 pub fn is_utf8(s: &[u8]) -> bool
     ensures { result ≡ valid s.now }
 {

@@ -1,4 +1,3 @@
 pub mod Sums
-pub mod Answers
 pub mod ReadBack
 pub mod Texts

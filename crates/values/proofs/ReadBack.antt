@@ -3,7 +3,7 @@ use Prim.Native.Nat.{ℕ, ◌≤◌, ◌<◌}
 use native.Mathlib.Omega.{arith}
 use mathlib.Core.Path.{◌≡◌, refl}
 use mathlib.Core.Bool.{Bool, true, false, not, ◌||◌}
-use mathlib.Core.Option.{Option, none, some, get_or}
+use Rattle.std.specs.Prelude.{Option, None, Some, unwrap_or}
 use mathlib.Core.List.{List, [], ◌∷◌, ◌++◌}
 use lib.ListN.{length, length-append}
 use lib.IntN.{ℤ, pos, negsuc, nat_abs, ◌+ℤ◌, ◌-ℤ◌}
@@ -51,16 +51,16 @@ undo-back l r w hl hr =
     )
     (refl, refl)
 
-i32-below : (s : List ℕ) (z : ℤ) → i32 s ≡ some z → mag z < 2147483648
+i32-below : (s : List ℕ) (z : ℤ) → i32 s ≡ Some z → mag z < 2147483648
 unfolding i32
 i32-below s z e = ltb-true (mag z) 2147483648 (provided-holds is_i32 (whole (trim s)) z e)
 
-or_else : (s : List ℕ) (d : ℤ) → mag d < 2147483648 → mag (get_or (i32 s) d) < 2147483648
+or_else : (s : List ℕ) (d : ℤ) → mag d < 2147483648 → mag (unwrap_or (i32 s) d) < 2147483648
 or_else s d h = go (i32 s) refl
   where
-    go : (o : Option ℤ) → i32 s ≡ o → mag (get_or o d) < 2147483648
-    go none e = h
-    go (some z) e = i32-below s z e
+    go : (o : Option ℤ) → i32 s ≡ o → mag (unwrap_or o d) < 2147483648
+    go None e = h
+    go (Some z) e = i32-below s z e
 
 -- whatever the text, the numbers are of 32 bits
 pub undo-small : (s : List ℕ) → (mag (parse_undo s).left < 2147483648) × (mag (parse_undo s).right < 2147483648)
@@ -109,16 +109,16 @@ module _ (r : Range) (ha : r.least < 256) (hb : r.greatest < 256) where
   unfolding format_range
   first = before-marks 44 comma (places 3 r.greatest) (places 3 r.least) (marks-places 3 r.least)
 
-  second : behind 44 (format_range r) ≡ some (places 3 r.greatest)
+  second : behind 44 (format_range r) ≡ Some (places 3 r.greatest)
   unfolding format_range
   second = behind-marks 44 comma (places 3 r.greatest) (places 3 r.least) (marks-places 3 r.least)
 
   -- as bytes' numbers
-  pub range_back : parse_range (format_range r) ≡ some r
+  pub range_back : parse_range (format_range r) ≡ Some r
   unfolding parse_range
   range_back = rw (second, first, u8-places r.least ha, u8-places r.greatest hb)
 
-  pub range-shift : (steps : ℤ) → shift_range steps (format_range r) ≡ some (format_range (shifted steps r))
+  pub range-shift : (steps : ℤ) → shift_range steps (format_range r) ≡ Some (format_range (shifted steps r))
   unfolding shift_range
   range-shift steps = rw range_back
 

@@ -1,6 +1,6 @@
 -- Stored values, by the key of their item (document 01, "Numbers in tags").
 use Rattle.std.specs.Prelude.{ℕ, Bool, false, ◌||◌, cond, List, eqb, ℤ}
-use Rattle.std.proofs.Math.Option.{Option, none}
+use Rattle.std.specs.Prelude.{Option, None}
 use Rattle.lists.specs.Choice.{found}
 use Rattle.decibels.specs.Gain.{shift_gain}
 use Rattle.peaks.specs.Peak.{shift_peak}
@@ -41,7 +41,7 @@ abbrev pub shift_by : k.Kind → List ℕ → ℤ → Option (List ℕ)
 shift_by k.TheVariants.Range value steps = shift_range steps value
 shift_by k.TheVariants.Gain value steps = shift_gain steps value
 shift_by k.TheVariants.Peak value steps = shift_peak steps value
-shift_by k.TheVariants.Other value steps = none
+shift_by k.TheVariants.Other value steps = None
 
 -- the same by the item's key
 unfoldable pub shift_stored : List ℕ → List ℕ → ℤ → Option (List ℕ)

@@ -1,6 +1,6 @@
 -- Undo texts (document 01, "Numbers in tags").
 use Rattle.std.specs.Prelude.{ℕ, min, Bool, true, false, List, [], ◌∷◌, ◌++◌, ℤ, pos, negsuc, ◌-ℤ◌}
-use Rattle.std.proofs.Math.Option.{get_or}
+use Rattle.std.specs.Prelude.{unwrap_or}
 use Rattle.lists.specs.Bytes.{ascii}
 use Rattle.number.specs.Trim.{trim}
 use Rattle.number.specs.Fields.{field}
@@ -21,8 +21,8 @@ format_undo l r wrap = signed l ++ (0x2C ∷ (signed r ++ (0x2C ∷ flag_byte wr
 -- left that does not parse is 0; right takes left
 unfoldable pub parse_undo : List ℕ → UndoValues
 parse_undo s =
-    let l = get_or (i32 (field 0 s)) (pos 0) in
-    record { left = l; right = get_or (i32 (field 1 s)) l }
+    let l = unwrap_or (i32 (field 0 s)) (pos 0) in
+    record { left = l; right = unwrap_or (i32 (field 1 s)) l }
 
 -- the flag is the third field, trimmed, W in any case; all else means N
 unfoldable pub undo_wraps : List ℕ → Bool

@@ -22,20 +22,16 @@ fn answer_from(text: &[u8], at: usize) -> usize
     ensures { result ≡ L.answer_from text.now at }
 {
     let mut within = false;
-    let mut i = at;
-    while i < text.len() {
-        let b = text[i];
+    for i in at..text.len() {
         if within {
-            within = b != b'\n';
-        } else {
-            if b != b'#' {
-                return i;
-            }
+            within = text[i] != b'\n';
+        } else if text[i] == b'#' {
             within = true;
+        } else {
+            return i;
         }
-        i += 1;
     }
-    i
+    at.max(text.len())
 }
 
 // Before the first answer.
@@ -53,38 +49,34 @@ pub fn start(text: &[u8]) -> Replay
 pub fn counted(text: &[u8], r: Replay, agrees: bool) -> Replay
     ensures { (result ≡ L.counted text.now r agrees) × (r.at < length text.now → r.at < result.at) }
 {
-    let at = answer_from(text, words::behind(text, r.at, b'\n'));
-    let answers = std::num::wrapping_add_u32(r.answers, 1);
-    if agrees {
-        return Replay {
-            at,
-            answers,
-            differ: r.differ,
-        };
-    }
     Replay {
-        at,
-        answers,
-        differ: std::num::wrapping_add_u32(r.differ, 1),
+        at: answer_from(text, words::behind(text, r.at, b'\n')),
+        answers: r.answers.wrapping_add(1),
+        differ: if agrees {
+            r.differ
+        } else {
+            r.differ.wrapping_add(1)
+        },
     }
+}
+
+// Replays every answer: `agrees` says whether the one at a place is the library's. No `for`: each turn goes on by a line.
+pub fn replay_all<F: Fn(&[u8], usize) -> bool>(text: &[u8], agrees: F) -> Replay
+    requires { F.IsAlwaysCallable agrees }
+    ensures { length text.now ≤ result.at }
+{
+    let mut r = start(text);
+    while r.at < text.len() {
+        r = counted(text, r, agrees(text, r.at));
+    }
+    r
 }
 
 // One more byte of a digest (FNV-1a, 64 bits).
 pub fn digest(h: u64, b: u8) -> u64
     ensures { result ≡ digest_of h b }
 {
-    let x = h ^ (b as u64);
-    // The prime is 2^40 + 435.
-    std::num::wrapping_add_u64(x % 0x100_0000 * 0x100_0000_0000, times_435(x))
-}
-
-// 435 times x, modulo 2^64.
-fn times_435(x: u64) -> u64
-    ensures { result ≡ x * 435 % 2 ^ 64 }
-{
-    let low = x % 0x1_0000_0000 * 435;
-    let high = x / 0x1_0000_0000 * 435 % 0x1_0000_0000 * 0x1_0000_0000;
-    std::num::wrapping_add_u64(low, high)
+    (h ^ u64::from(b)).wrapping_mul(0x100_0000_01B3)
 }
 
 // Room for a whole list.

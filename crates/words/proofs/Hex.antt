@@ -1,47 +1,48 @@
 -- Laws of `hex_byte` and `hex_bytes`.
-use Prim.Native.Nat.{ℕ, suc, ◌+◌, ◌*◌, ◌≤◌, ◌<◌, min}
+use Prim.Native.Nat.{ℕ, suc, ◌+◌, ◌≤◌, ◌<◌, min}
 use native.Mathlib.Numerals.{add-one}
 use native.Mathlib.Nat.{zero-add}
 use native.Mathlib.Omega.{arith}
 use mathlib.Core.Path.{◌≡◌, refl, sym, ap, ◌∙◌}
-use mathlib.Core.Bool.{false}
+use mathlib.Core.Bool.{Bool, true, false, not}
 use mathlib.Core.List.{List, [], ◌∷◌}
 use lib.ListN.{length, take, drop, get_or, set, length-drop, length-take, drop_of_length-le}
 use lib.Seq.{drop-cons, drop-drop, take_all, take-take, paste, paste-suc}
-use lib.Dec.{ltb}
-use borrow.Author.Tests.{lt-ltb, le-ltb, ltb-true, ltb-false, eq-eqb, ne_eqb}
-use Rattle.integers.proofs.Sign.{cases}
+use lib.Dec.{eqb}
+use borrow.Author.Tests.{eqb-true, eq-eqb, ne_eqb, not-false}
 use Rattle.lists.specs.Bytes.{same}
 use Rattle.lists.specs.Write.{over}
-use Rattle.words.specs.Words.{digit, hex_byte, hex_bytes}
+use Rattle.std.specs.Prelude.{Option, None, Some}
+use Rattle.std.specs.Option.{option_eq, is_some}
+use Rattle.words.specs.Words.{digit, byte_of, hex_byte, hex_bytes}
 
-pub too_short : (s : List ℕ) → length s < 2 → hex_byte s ≡ 256
+pub too_short : (s : List ℕ) → length s < 2 → hex_byte s ≡ None
 too_short [] h = refl
 too_short (h ∷ []) l = refl
 too_short (h ∷ l ∷ s) k = absurd (omega arith)
 
-pub byte-there : (s : List ℕ) (at : ℕ) → at + 2 ≤ length s → hex_byte (drop at s) ≡ digit (get_or s at 0) * 16 + digit (get_or s (at + 1) 0)
+pub byte-there : (s : List ℕ) (at : ℕ) → at + 2 ≤ length s → hex_byte (drop at s) ≡ byte_of (digit (get_or s at 0)) (digit (get_or s (at + 1) 0))
 byte-there s at h = rw (drop-cons s at 0 (omega arith), drop-cons s (suc at) 0 (omega arith), add-one)
 
-pub long-enough : (s : List ℕ) → hex_byte s < 256 → 2 ≤ length s
-long-enough [] h = absurd (omega arith)
-long-enough (h ∷ []) k = absurd (omega arith)
+pub long-enough : (s : List ℕ) {b : ℕ} → hex_byte s ≡ Some b → 2 ≤ length s
+long-enough [] h = cc
+long-enough (h ∷ []) k = cc
 long-enough (h ∷ l ∷ s) k = omega arith
 
-pub no_more : (s : List ℕ) → 256 ≤ hex_byte s → hex_bytes s ≡ []
+pub no_more : (s : List ℕ) → hex_byte s ≡ None → hex_bytes s ≡ []
 unfolding hex_bytes
 no_more [] h = refl
 no_more (h ∷ []) k = refl
-no_more (h ∷ l ∷ s) k = rw (le-ltb (digit h * 16 + digit l) 256 k)
+no_more (h ∷ l ∷ s) k = rw k
 
-first_of : (s : List ℕ) → hex_byte s < 256 → hex_bytes s ≡ hex_byte s ∷ hex_bytes (drop 2 s)
+first_of : (s : List ℕ) {b : ℕ} → hex_byte s ≡ Some b → hex_bytes s ≡ b ∷ hex_bytes (drop 2 s)
 unfolding hex_bytes
-first_of [] h = absurd (omega arith)
-first_of (h ∷ []) k = absurd (omega arith)
-first_of (h ∷ l ∷ s) k = rw (lt-ltb (digit h * 16 + digit l) 256 k)
+first_of [] h = cc
+first_of (h ∷ []) k = cc
+first_of (h ∷ l ∷ s) k = rw k
 
 -- one turn of a loop at i
-pub one_more : (s : List ℕ) (i : ℕ) → hex_byte (drop i s) < 256 → hex_bytes (drop i s) ≡ hex_byte (drop i s) ∷ hex_bytes (drop (i + 2) s)
+pub one_more : (s : List ℕ) (i : ℕ) {b : ℕ} → hex_byte (drop i s) ≡ Some b → hex_bytes (drop i s) ≡ b ∷ hex_bytes (drop (i + 2) s)
 one_more s i h = first_of (drop i s) h ∙ rw drop-drop
 
 -- ---- all bytes w, of which a loop has put the first n to the front of o
@@ -72,21 +73,41 @@ module _ (w : List ℕ) (n : ℕ) where
 
 -- ---- a word held against bytes, at i and at n
 
+module _ (x : Option ℕ) (b : ℕ) where
+  pub same_byte : not (option_eq eqb x (Some b)) ≡ false → x ≡ Some b
+  same_byte h = go x h
+    where
+      go : (x : Option ℕ) → not (option_eq eqb x (Some b)) ≡ false → x ≡ Some b
+      go None h = cc
+      go (Some a) h = ap Some (eqb-true a b (not-false _ h))
+
+  pub other_byte : not (option_eq eqb x (Some b)) ≡ true → x ≡ Some b → ⊥
+  other_byte h e =
+      let f : not (option_eq eqb (Some b) (Some b)) ≡ true = rw e at h in
+      let g : not true ≡ true = rw (eq-eqb b b refl) at f in
+      cc
+
+pub none_left : {t : Bool} (r : Bool) → t ≡ not r → r ≡ not t
+none_left true e = rw e
+none_left false e = rw e
+
 module _ (s : List ℕ) (i : ℕ) (b : List ℕ) (n : ℕ) where
-  pub same_turn : n < length b → get_or b n 0 < 256 → hex_byte (drop i s) ≡ get_or b n 0 → same (hex_bytes (drop i s)) (drop n b) ≡ same (hex_bytes (drop (i + 2) s)) (drop (n + 1) b)
+  pub same_turn : n < length b → hex_byte (drop i s) ≡ Some (get_or b n 0) → same (hex_bytes (drop i s)) (drop n b) ≡ same (hex_bytes (drop (i + 2) s)) (drop (n + 1) b)
   unfolding same
-  same_turn l k e = rw (one_more s i (omega arith), drop-cons b n 0 l, eq-eqb (hex_byte (drop i s)) (get_or b n 0) e, add-one)
+  same_turn l e = rw (one_more s i e, drop-cons b n 0 l, eq-eqb (get_or b n 0) (get_or b n 0) refl, add-one)
 
-  pub same_not : n < length b → get_or b n 0 < 256 → (hex_byte (drop i s) ≡ get_or b n 0 → ⊥) → same (hex_bytes (drop i s)) (drop n b) ≡ false
+  pub same_not : n < length b → (hex_byte (drop i s) ≡ Some (get_or b n 0) → ⊥) → same (hex_bytes (drop i s)) (drop n b) ≡ false
   unfolding same
-  same_not l k e = cases (ltb (hex_byte (drop i s)) 256)
-      (λ t. rw (one_more s i (ltb-true _ _ t), drop-cons b n 0 l, ne_eqb (hex_byte (drop i s)) (get_or b n 0) e))
-      (λ t. rw (no_more (drop i s) (ltb-false _ _ t), drop-cons b n 0 l))
+  same_not l e = go (hex_byte (drop i s)) refl
+    where
+      go : (x : Option ℕ) → hex_byte (drop i s) ≡ x → same (hex_bytes (drop i s)) (drop n b) ≡ false
+      go None f = rw (no_more (drop i s) f, drop-cons b n 0 l)
+      go (Some x) f = rw (one_more s i f, drop-cons b n 0 l, ne_eqb x (get_or b n 0) (λ g. e (f ∙ ap Some g)))
 
-  pub same_end : length b ≤ n → same (hex_bytes (drop i s)) (drop n b) ≡ ltb 255 (hex_byte (drop i s))
+  pub same_end : length b ≤ n → same (hex_bytes (drop i s)) (drop n b) ≡ not (is_some (hex_byte (drop i s)))
   unfolding same
-  same_end l = cases (ltb (hex_byte (drop i s)) 256)
-      (λ t.
-      let h : hex_byte (drop i s) < 256 = ltb-true _ _ t in
-      rw (one_more s i h, drop_of_length-le b {i = n} l, le-ltb 255 (hex_byte (drop i s)) (omega arith)))
-      (λ t. rw (no_more (drop i s) (ltb-false _ _ t), drop_of_length-le b {i = n} l, lt-ltb 255 (hex_byte (drop i s)) (ltb-false _ _ t)))
+  same_end l = go (hex_byte (drop i s)) refl
+    where
+      go : (x : Option ℕ) → hex_byte (drop i s) ≡ x → same (hex_bytes (drop i s)) (drop n b) ≡ not (is_some x)
+      go None f = rw (no_more (drop i s) f, drop_of_length-le b {i = n} l)
+      go (Some x) f = rw (one_more s i f, drop_of_length-le b {i = n} l)

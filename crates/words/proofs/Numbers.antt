@@ -4,12 +4,13 @@ use native.Mathlib.Numerals.{add-one}
 use native.Mathlib.Nat.{mod-lt, mod-add-div, add-mul, mul_assoc, mul_comm, add-mul-mod_self_left, mul-le-mul_right}
 use native.Mathlib.Omega.{arith}
 use mathlib.Core.Path.{◌≡◌, sym, ap, ◌∙◌}
-use mathlib.Core.Bool.{Bool, true, false, cond}
 use mathlib.Core.List.{List, [], ◌∷◌}
 use lib.ListN.{length, drop, get_or, drop_of_length-le}
 use lib.Seq.{drop-cons}
 use lib.Dec.{ltb}
 use borrow.Author.Tests.{lt-ltb, le-ltb}
+use Rattle.std.specs.Prelude.{Option, None, Some}
+use Rattle.lists.specs.Choice.{found, provided}
 use Rattle.words.specs.Words.{digit, number}
 
 module _ (base n : ℕ) (s : List ℕ) (i : ℕ) where
@@ -17,13 +18,18 @@ module _ (base n : ℕ) (s : List ℕ) (i : ℕ) where
   unfolding number
   at-end h = rw (drop_of_length-le s {i = i} h)
 
-  pub other : i < length s → base ≤ digit (get_or s i 0) → number base n (drop i s) ≡ n
+  pub none : i < length s → digit (get_or s i 0) ≡ None → number base n (drop i s) ≡ n
   unfolding number
-  other h e = rw (drop-cons s i 0 h, le-ltb (digit (get_or s i 0)) base e)
+  none h e = rw (drop-cons s i 0 h, e)
 
-  pub one_more : i < length s → digit (get_or s i 0) < base → number base n (drop i s) ≡ number base (n * base + digit (get_or s i 0)) (drop (i + 1) s)
-  unfolding number
-  one_more h e = rw (drop-cons s i 0 h, lt-ltb (digit (get_or s i 0)) base e, add-one)
+  module _ (d : ℕ) (h : i < length s) (e : digit (get_or s i 0) ≡ Some d) where
+    pub other : base ≤ d → number base n (drop i s) ≡ n
+    unfolding number
+    other l = rw (drop-cons s i 0 h, e, le-ltb d base l)
+
+    pub one_more : d < base → number base n (drop i s) ≡ number base (n * base + d) (drop (i + 1) s)
+    unfolding number
+    one_more l = rw (drop-cons s i 0 h, e, lt-ltb d base l, add-one)
 
 -- all but the remainder of x counts nothing modulo m
 front-off : (base m x d : ℕ) → (x * base + d) % m ≡ (x % m * base + d) % m
@@ -35,13 +41,12 @@ front-off base m x d =
 pub alike : (base m : ℕ) (s : List ℕ) (x y : ℕ) → x % m ≡ y % m → number base x s % m ≡ number base y s % m
 unfolding number
 alike base m [] x y h = h
-alike base m (c ∷ s) x y h =
-    go (ltb (digit c) base) (alike base m s (x * base + digit c) (y * base + digit c) (front-off base m x (digit c) ∙ rw h (sym (front-off base m y (digit c)))))
+alike base m (c ∷ s) x y h = go (provided (λ (d : ℕ). ltb d base) (digit c)) (λ d. alike base m s (x * base + d) (y * base + d) (front-off base m x d ∙ rw h (sym (front-off base m y d))))
   where
-    go : (t : Bool) → number base (x * base + digit c) s % m ≡ number base (y * base + digit c) s % m
-        → cond t (number base (x * base + digit c) s) x % m ≡ cond t (number base (y * base + digit c) s) y % m
-    go true e = e
-    go false e = h
+    go : (t : Option ℕ) → ((d : ℕ) → number base (x * base + d) s % m ≡ number base (y * base + d) s % m)
+        → found t x (λ d. number base (x * base + d) s) % m ≡ found t y (λ d. number base (y * base + d) s) % m
+    go None e = h
+    go (Some d) e = e d
 
 module _ (base top n d : ℕ) where
   -- a loop may forget all but the last digits

@@ -4,7 +4,7 @@
 // list shows as a difference.
 #![tactic(auto)]
 
-ghost use Rattle.std.specs.Prelude.{◌≡◌, ◌*◌, ◌%◌, ◌^◌, ◌≤◌, ◌<◌, length, take, drop};
+ghost use Rattle.std.specs.Prelude.{◌≡◌, ◌*◌, ◌%◌, ◌^◌, ◌≤◌, ◌<◌, ◌&&◌, leb, length, take, drop};
 ghost use Rattle.lists.specs.Bytes.{same};
 ghost use Rattle.lists.specs.Write.{over};
 ghost use Rattle.words.specs.Words as W;
@@ -14,10 +14,7 @@ pub fn behind(text: &[u8], at: usize, end: u8) -> usize
     ensures { result ≡ W.behind end text.now at }
 {
     let e = lists::find_byte(text, at, end);
-    if e < text.len() {
-        return e + 1;
-    }
-    text.len()
+    if e < text.len() { e + 1 } else { text.len() }
 }
 
 // The word behind this one.
@@ -27,23 +24,15 @@ pub fn next_word(text: &[u8], at: usize) -> usize
     behind(text, at, b' ')
 }
 
-// The value of a hex digit, or 256.
-fn hex_digit(b: u8) -> u32
-    ensures { (result ≡ W.digit b) × (result ≤ 256) }
+// The value of a hex digit.
+fn hex_digit(b: u8) -> Option<u8>
+    ensures { result ≡ W.digit b }
 {
-    if b < b'0' {
-        return 256;
+    match b {
+        b'0'..=b'9' => Some(b - b'0'),
+        b'a'..=b'f' => Some(b - b'a' + 10),
+        _ => None,
     }
-    if b <= b'9' {
-        return (b - b'0') as u32;
-    }
-    if b < b'a' {
-        return 256;
-    }
-    if b <= b'f' {
-        return (b - b'a' + 10) as u32;
-    }
-    256
 }
 
 // The digits of this base at this place as a number, up to the first other byte, modulo `top` times the base.
@@ -52,14 +41,15 @@ fn digits(text: &[u8], at: usize, base: u64, top: u64) -> u64
     ensures { result ≡ W.number base 0 (drop at text.now) % (top * base) }
 {
     let mut n: u64 = 0;
-    let mut i = at;
-    while i < text.len() {
-        let d = hex_digit(text[i]) as u64;
+    for i in at..text.len() {
+        let Some(digit) = hex_digit(text[i]) else {
+            return n;
+        };
+        let d = u64::from(digit);
         if base <= d {
             return n;
         }
         n = n % top * base + d;
-        i += 1;
     }
     n
 }
@@ -97,17 +87,16 @@ pub fn signed(text: &[u8], at: usize) -> i32
     integers::together(integers::Apart { down: false, by })
 }
 
-// The byte whose two hex digits stand at this place, or more than 255.
-fn hex_byte(text: &[u8], at: usize) -> u32
+// The byte whose two hex digits stand at this place.
+fn hex_byte(text: &[u8], at: usize) -> Option<u8>
     ensures { result ≡ W.hex_byte (drop at text.now) }
 {
-    if text.len() < 2 {
-        return 256;
+    if text.len() < 2 || text.len() - 2 < at {
+        return None;
     }
-    if text.len() - 2 < at {
-        return 256;
-    }
-    hex_digit(text[at]) * 16 + hex_digit(text[at + 1])
+    let high = hex_digit(text[at])?;
+    let low = hex_digit(text[at + 1])?;
+    Some(high * 16 + low)
 }
 
 // Puts the bytes of a word of hex digits at the front of `out`, as many as fit, and answers how many.
@@ -116,17 +105,21 @@ pub fn hex_bytes(text: &[u8], at: usize, out: &mut [u8]) -> usize
         (result ≡ length new) × (out.new ≡ over new out.old) × (result ≤ length out.old) }
 {
     let mut i = at;
-    let mut n = 0;
-    while n < out.len() {
-        let b = hex_byte(text, i);
-        if 255 < b {
+    for n in 0..out.len() {
+        let Some(b) = hex_byte(text, i) else {
             return n;
-        }
-        out[n] = b as u8;
-        n += 1;
+        };
+        out[n] = b;
         i += 2;
     }
-    n
+    out.len()
+}
+
+// Whether the word at this place is the hex of the first n of these bytes.
+pub fn is_front(text: &[u8], at: usize, bytes: &[u8], n: usize) -> bool
+    ensures { result ≡ (leb n (length bytes.now) && same (W.hex_bytes (drop at text.now)) (take n bytes.now)) }
+{
+    n <= bytes.len() && is_hex(text, at, &bytes[..n])
 }
 
 // Whether the word at this place is the hex of these bytes.
@@ -134,14 +127,11 @@ pub fn is_hex(text: &[u8], at: usize, bytes: &[u8]) -> bool
     ensures { result ≡ same (W.hex_bytes (drop at text.now)) bytes.now }
 {
     let mut i = at;
-    let mut n = 0;
-    while n < bytes.len() {
-        let b = hex_byte(text, i);
-        if b != bytes[n] as u32 {
+    for &b in bytes {
+        if hex_byte(text, i) != Some(b) {
             return false;
         }
-        n += 1;
         i += 2;
     }
-    255 < hex_byte(text, i)
+    hex_byte(text, i).is_none()
 }

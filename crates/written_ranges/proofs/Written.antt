@@ -2,8 +2,8 @@
 use Prim.Native.Nat.{ℕ, ◌<◌}
 use native.Mathlib.Omega.{arith}
 use mathlib.Core.Path.{◌≡◌, refl, sym, ap, ◌∙◌, subst}
-use mathlib.Core.Option
-use mathlib.Core.Option.{Option, none, some}
+use Rattle.std.specs.Prelude.{Option, None, Some}
+use Rattle.std.specs.Prelude.{option_map}
 use mathlib.Core.List.{List, [], ◌∷◌, map}
 use lib.IntN.{ℤ}
 use Rattle.frame.specs.declared.GainMode.{GainMode}
@@ -25,16 +25,16 @@ use Rattle.written_ranges.specs.Written.{gains_after, EveryRange}
 
 -- ---- a shifted range
 
-moved : (o : Option Range) (steps : ℤ) (t : List ℕ) → Option.map (λ r. format_range (shifted steps r)) o ≡ some t
-    → (r : Range) × (o ≡ some r) × BothRead t (shifted steps r)
-moved none steps t e = absurd (let z : ◌≡◌ {A = ℕ} 0 1 = cc in omega arith)
-moved (some r) steps t e =
+moved : (o : Option Range) (steps : ℤ) (t : List ℕ) → option_map (λ r. format_range (shifted steps r)) o ≡ Some t
+    → (r : Range) × (o ≡ Some r) × BothRead t (shifted steps r)
+moved None steps t e = absurd (let z : ◌≡◌ {A = ℕ} 0 1 = cc in omega arith)
+moved (Some r) steps t e =
     let q : format_range (shifted steps r) ≡ t = cc in
     let both = both_read (shifted steps r) (adjust-below Saturating steps r.least) (adjust-below Saturating steps r.greatest) in
     (r, refl, subst (λ (x : List ℕ). BothRead x (shifted steps r)) q both)
 
-shift : (key value : List ℕ) (steps : ℤ) (t : List ℕ) → kind_of key ≡ k.TheVariants.Range → shift_stored key value steps ≡ some t
-    → (r : Range) × (parse_range value ≡ some r) × BothRead t (shifted steps r)
+shift : (key value : List ℕ) (steps : ℤ) (t : List ℕ) → kind_of key ≡ k.TheVariants.Range → shift_stored key value steps ≡ Some t
+    → (r : Range) × (parse_range value ≡ Some r) × BothRead t (shifted steps r)
 unfolding shift_stored shift_range
 shift key value steps t h e = moved (parse_range value) steps t (ap (λ x. shift_by x value steps) (sym h) ∙ e)
 
@@ -46,7 +46,7 @@ greatest-small m s [] = omega arith
 greatest-small m s (g ∷ gs) = omega (arith, adjust-below m s g, greatest-small m s gs)
 
 level : (file left right : List ℕ) (l : Level)
-    → (t : List ℕ) × (get_item minmax_key (new_items file left right l) ≡ some t) × BothRead t (range_of (gains_after left right l))
+    → (t : List ℕ) × (get_item minmax_key (new_items file left right l) ≡ Some t) × BothRead t (range_of (gains_after left right l))
 unfolding levelled_items
 level file left right l =
     let gs = gains_after left right l in

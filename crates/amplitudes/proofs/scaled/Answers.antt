@@ -1,4 +1,3 @@
-use borrow.Author.Rules.{rules}
 use Rattle.amplitudes.proofs.Products.{not-nan, constant-at}
 use Rattle.amplitudes.proofs.scaled.Goals as goal
 

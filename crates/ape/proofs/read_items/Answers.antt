@@ -22,18 +22,19 @@ tested : (c : After-items_fit) → (b : Bool) → c.items_fit.result ≡ b
 tested c b e =
     let g = c.args in
     let n = length (area_bytes (read_items g.count g.items.now)) in
-    sym (room-least n (length g.out.now) 16777216) ∙ ap (leb n) (sym c.least.ensures) ∙ sym c.items_fit.ensures ∙ e
+    sym (room-least n (length g.out.now) 16777216) ∙ ap (leb n) (sym c.min.ensures) ∙ sym c.items_fit.ensures ∙ e
 
 pub returns-then-not-items_fit : goal.returns-then-not-items_fit
 returns-then-not-items_fit c =
     rw (tested (goal.at.returns-then-not-items_fit c).After-items_fit false c.if-not-items_fit.true) (refl, refl)
 
-pub write_items-a-requires : goal.write_items-a-requires
-write_items-a-requires c =
-    let t = tested (goal.at.write_items-a-requires c).After-items_fit true c.if-not-items_fit.false in
+pub write_items-requires : goal.write_items-requires
+write_items-requires c =
+    let t = tested (goal.at.write_items-requires c).After-items_fit true c.if-not-items_fit.false in
     (class-table, c.requires, leb-true _ _ ((and-eq-true_iff _ _).0 t).0)
 
 pub returns : goal.returns
 returns c =
-    let e = c.write_items-a.ensures in
-    rw (tested (goal.at.returns c).After-items_fit true c.if-not-items_fit.false, e.0, e.1) (refl, e.2)
+    let e = c.write_items.ensures in
+    let t = tested (goal.at.returns c).After-items_fit true c.if-not-items_fit.false in
+    (rw (t, ← e.0, ← e.1) refl, rw t e.2)

@@ -1,48 +1,48 @@
 use mathlib.Core.Path.{sym, ◌∙◌}
+use mathlib.Core.Bool.{Bool}
+use mathlib.Core.List.{List}
+use mathlib.Core.Logic.{⊎_elim}
+use Prim.Native.Nat.{ℕ}
+use lib.ListN.{length}
 use native.Mathlib.Omega.{arith}
-use borrow.Author.Rules.{rules}
+use Rattle.std.specs.Fn.{FnReturnsAt}
 use Rattle.items.specs.Items.{without}
-use Rattle.area_drop.specs.Drops.{dropped}
 use Rattle.area_edit.proofs.Plans.{fits-yes, fits-room, fits-long, refused, finished}
+use Rattle.area_drop.specs.Drops.{Tests}
 use Rattle.area_drop.proofs.Plans.{edit-12, edit-5, edit-yes, Sized, sized, unsized}
 use Rattle.area_drop.proofs.edit_without.Goals as goal
-use Rattle.area_drop.proofs.edit_without.Goals.{In-Size}
+use Rattle.area_drop.proofs.edit_without.Goals.{In-Some}
 
 pub returns-in_default : goal.returns-in_default
-returns-in_default c =
-    let g = c.args in
-    let p = dropped g.what g.key.now in
-    refused g.out.now (edit-12 g.count g.area.now _ (without p) (unsized (without p) g.count g.area.now (sym c.in_default.is ∙ c.measure_without-m.ensures)))
+returns-in_default g c p h =
+    let s = c.args in
+    refused s.out.now (edit-12 s.count s.area.now (length s.out.now) (without p) (unsized (without p) s.count s.area.now (sym c.in_default.is ∙ c.measure_without.ensures p h)))
 
 -- what the measure says
-here : (c : In-Size) → let g = c.args in
-    Sized (without (dropped g.what g.key.now)) g.count g.area.now c.in-Size.n c.in-Size.size
-here c =
-    let g = c.args in
-    sized (without (dropped g.what g.key.now)) g.count g.area.now _ _ (sym c.in-Size.is ∙ c.measure_without-m.ensures)
+here : (g : _) (c : In-Some g) (p : List ℕ → Bool) → Tests (FnReturnsAt g.F.Fn c.args.goes) p → Sized (without p) c.args.count c.args.area.now c.in-Some.size
+here g c p h = sized (without p) c.args.count c.args.area.now c.in-Some.size (sym c.in-Some.is ∙ c.measure_without.ensures p h)
 
 pub returns-then-out-size : goal.returns-then-out-size
-returns-then-out-size c =
-    let g = c.args in
-    let p = dropped g.what g.key.now in
-    let x = here (goal.at.returns-then-out-size c).In-Size in
-    refused g.out.now (edit-5 g.count g.area.now _ (without p) x.some (fits-room _ _ (omega (arith, x.length))))
+returns-then-out-size g c p h =
+    let s = c.args in
+    let x = here g (goal.at.returns-then-out-size g c).In-Some p h in
+    refused s.out.now (edit-5 s.count s.area.now (length s.out.now) (without p) x.some
+    (⊎_elim (λ h. fits-room _ _ (omega (arith, x.length))) (λ h. fits-long _ _ (omega (arith, x.length))) c.then-out-size.either))
 
-pub returns-then-size-gt-FILE_LIMIT : goal.returns-then-size-gt-FILE_LIMIT
-returns-then-size-gt-FILE_LIMIT c =
-    let g = c.args in
-    let p = dropped g.what g.key.now in
-    let x = here (goal.at.returns-then-size-gt-FILE_LIMIT c).In-Size in
-    refused g.out.now (edit-5 g.count g.area.now _ (without p) x.some (fits-long _ _ (omega (arith, x.length))))
+pub write_without-requires-clause-formed : goal.write_without-requires-clause-formed
+write_without-requires-clause-formed g c =
+    let (p, h) = c.requires.tests in
+    (here g (goal.at.write_without-requires-clause-formed g c).In-Some p h).some
 
-pub write_without-end-requires : goal.write_without-end-requires
-write_without-end-requires c = let x = here (goal.at.write_without-end-requires c).In-Size in (x.some, omega (arith, x.length, c.if-out-size.false))
+pub write_without-requires-clause-room : goal.write_without-requires-clause-room
+write_without-requires-clause-room g c =
+    let (p, h) = c.requires.tests in
+    (p, h, omega (arith, (here g (goal.at.write_without-requires-clause-room g c).In-Some p h).length))
 
 pub returns : goal.returns
-returns c =
-    let g = c.args in
-    let p = dropped g.what g.key.now in
-    let x = here (goal.at.returns c).In-Size in
-    finished g.out.now
-    (edit-yes g.count g.area.now _ (without p) x.some (fits-yes _ _ (omega (arith, x.length, c.if-out-size.false)) (omega (arith, x.length, c.if-size-gt-FILE_LIMIT.false))))
-    x.count c.write_without-end.ensures.0 c.write_without-end.ensures.1
+returns g c p h =
+    let s = c.args in
+    let x = here g (goal.at.returns g c).In-Some p h in
+    finished s.out.now {out' = c.write_without.new.out}
+    (edit-yes s.count s.area.now (length s.out.now) (without p) x.some (fits-yes _ _ (omega (arith, x.length, c.if-out-size.false)) (omega (arith, x.length, c.if-size-gt-FILE_LIMIT.false))))
+    x.count x.length (c.write_without.ensures p h).1

@@ -1,84 +1,66 @@
-use mathlib.Core.Path.{◌≡◌, sym, ◌∙◌}
-use Prim.Native.Nat.{◌+◌, ◌≤◌}
+use mathlib.Core.Path.{◌≡◌, refl, sym, ◌∙◌}
+use Prim.Native.Nat.{ℕ, ◌+◌, ◌-◌}
 use native.Mathlib.Omega.{arith}
-use borrow.Author.Rules.{rules}
-use borrow.Author.Tests.{not-true, not-false}
-use lib.ListN.{length}
-use Rattle.items.specs.Items.{without}
+use mathlib.Core.Bool.{Bool}
+use mathlib.Core.List.{List}
+use Rattle.std.specs.Fn.{FnReturnsAt}
+use Rattle.std.proofs.lemmas.Fn.{says_at}
+use Rattle.lists.specs.Write.{part}
 use Rattle.items.proofs.Walk.{Taken, taken, stopped}
-use Rattle.area_drop.specs.Drops.{dropped, measured_of}
-use Rattle.area_drop.proofs.Dropping.{measured, measure-begin, measure-long, measure-stop, measure-drop, measure-keep, measure-end, measure-behind}
+use Rattle.area_drop.specs.Drops.{Tests}
+use Rattle.area_drop.proofs.Dropping.{small-part, measure-long, measure-stop, measure-drop, measure-keep, measure-end, measure-behind}
 use Rattle.area_drop.proofs.measure_without.Goals as goal
-use Rattle.area_drop.proofs.measure_without.Goals.{In-Item}
-use borrow.Enum.Refused.{opened as among}
+use Rattle.area_drop.proofs.measure_without.Goals.{In-Item, After-goes, then-not-goes, else-not-goes}
 
 pub returns-then-count-area : goal.returns-then-count-area
-returns-then-count-area c =
-    let g = c.args in
-    sym (measure-long (dropped g.what g.key.now) g.area.now g.count (omega arith))
-
-pub loop-left-init : goal.loop-left-init
-loop-left-init c =
-    let g = c.args in
-    (omega arith, omega arith, omega arith, measure-begin (dropped g.what g.key.now) g.area.now g.count)
+returns-then-count-area g c p h = sym (measure-long p c.args.area.now c.args.count (omega arith))
 
 pub returns-in_default : goal.returns-in_default
-returns-in_default c =
-    let g = c.args in
-    let e = stopped g.area.now c.loop-left.at c.step-s.result c.step-s.ensures (among c.in_default.in_default-own.keys2) in
-    sym (c.loop-left.invariant.3 ∙ measure-stop (dropped g.what g.key.now) g.area.now c.loop-left.at c.loop-left.left c.loop-left.n c.loop-left.size (omega arith) e)
+returns-in_default g c p h =
+    let s = c.args.area.now in
+    let l = c.loop in
+    let e = stopped s l.at c.step.result c.step.ensures c.in_default.not-Item in
+    sym (l.invariant.3 p h ∙ measure-stop p s l.at (c.args.count - l.counter) l.n l.size (omega arith) e)
 
 -- the turn's item
-here : (c : In-Item) → Taken c.args.area.now c.loop-left.at c.in-Item.flags c.in-Item.key_start c.in-Item.key_end c.in-Item.value_start c.in-Item.value_end
-here c = taken c.args.area.now c.loop-left.at _ _ _ _ _ (sym c.in-Item.is ∙ c.step-s.ensures)
+here : (g : _) (c : In-Item g) → Taken c.args.area.now c.loop.at c.in-Item.flags c.in-Item.key_start c.in-Item.key_end c.in-Item.value_start c.in-Item.value_end
+here g c = taken c.args.area.now c.loop.at _ _ _ _ _ c.in-Item.ensures
 
-pub overflow_add-n : goal.overflow_add-n
-overflow_add-n c =
-    omega (arith, c.loop-left.invariant.1, c.ranges.count)
+-- whether it goes
+tested : (g : _) (c : After-goes g) (p : List ℕ → Bool) → Tests (FnReturnsAt g.F.Fn c.args.goes) p → c.goes.result ≡ p (part c.in-Item.key_start c.in-Item.key_end c.args.area.now)
+tested g c p h =
+    h _ c.goes.result (small-part c.args.area.now c.in-Item.key_start c.in-Item.key_end (λ i. omega (arith, c.type_inv.area i))) (says_at g.F.Fn c.goes.ensures refl)
 
-pub overflow_add-size : goal.overflow_add-size
-overflow_add-size c =
-    let t = here (goal.at.overflow_add-size c).In-Item in
-    omega (arith, t.value-end, t.within, c.loop-left.invariant.2, c.well_formed.0)
+pub slice_bounds-goes-end : goal.slice_bounds-goes-end
+slice_bounds-goes-end g c = let t = here g (goal.at.slice_bounds-goes-end g c).In-Item in omega (arith, t.within, t.key-end, t.value-end)
 
-pub loop-left-preserved-then-not-drops : goal.loop-left-preserved-then-not-drops
-loop-left-preserved-then-not-drops c =
-    let t = here (goal.at.loop-left-preserved-then-not-drops c).In-Item in
-    let g = c.args in (
-      t.within,
-      omega (arith, c.loop-left.invariant.1),
-      omega (arith, c.loop-left.invariant.2, t.value-end),
-      c.loop-left.invariant.3 ∙ measure-keep (dropped g.what g.key.now) c.loop-left.left c.loop-left.n c.loop-left.size t (omega arith) c.drops.ensures c.if-not-drops.true,
-    )
-
-pub loop-left-preserved : goal.loop-left-preserved
-loop-left-preserved c =
-    let t = here (goal.at.loop-left-preserved c).In-Item in
-    let g = c.args in (
-      t.within,
-      omega (arith, c.loop-left.invariant.1),
-      omega (arith, c.loop-left.invariant.2, t.value-end),
-      c.loop-left.invariant.3 ∙ measure-drop (dropped g.what g.key.now) c.loop-left.left c.loop-left.n c.loop-left.size t (omega arith) c.drops.ensures c.if-not-drops.false,
-    )
+pub loop-preserved : goal.loop-preserved
+loop-preserved g c =
+    let q = goal.at.loop-preserved g c in
+    let t = here g q.In-Item in
+    let left = c.args.count - c.loop.counter in
+    let m = c.args.count - (c.loop.counter + 1) in
+    elim c.if-not-goes.branch [
+      | then-not-goes w ↦ (
+        t.within,
+        omega arith,
+        omega (arith, t.value-end),
+        λ p h. rw (w.n-is, w.size-is) (c.loop.invariant.3 p h ∙ measure-keep p left m c.loop.n c.loop.size t (omega arith) (tested g q.After-goes p h) w.if-not-goes.true),
+      )
+      | else-not-goes w ↦ (
+        t.within,
+        omega arith,
+        omega (arith, t.value-end),
+        λ p h. rw (w.n-is, w.size-is) (c.loop.invariant.3 p h ∙ measure-drop p left m c.loop.n c.loop.size t (omega arith) (tested g q.After-goes p h) w.if-not-goes.false),
+      )
+    ]
 
 pub returns-then-at-area : goal.returns-then-at-area
-returns-then-at-area c =
-    let g = c.args in
-    sym (c.loop-left.invariant.3 ∙ measure-behind (dropped g.what g.key.now) g.area.now c.loop-left.at c.loop-left.n c.loop-left.size c.loop-left.invariant.0 c.loop-left.left (omega arith) c.if-at-area.true)
+returns-then-at-area g c p h =
+    let l = c.loop in
+    sym (l.invariant.3 p h ∙ measure-end p c.args.area.now l.at l.n l.size l.invariant.0 (c.args.count - l.counter) (omega arith) c.if-at-area.true)
 
 pub returns : goal.returns
-returns c =
-    let g = c.args in
-    sym (c.loop-left.invariant.3 ∙ measure-end (dropped g.what g.key.now) g.area.now c.loop-left.at c.loop-left.n c.loop-left.size c.loop-left.invariant.0 c.loop-left.left (omega arith) c.if-at-area.false)
-
-pub slice_bounds-drops-count : goal.slice_bounds-drops-count
-slice_bounds-drops-count c = let t = here c in omega (arith, t.key-start, t.key-end)
-
-pub slice_bounds-drops-start : goal.slice_bounds-drops-start
-slice_bounds-drops-start c = let t = here c in omega (arith, t.key-start, t.key-end)
-
-pub slice_bounds-drops-end : goal.slice_bounds-drops-end
-slice_bounds-drops-end c = let t = here c in omega (arith, t.within, t.key-end, t.value-end)
-
-pub overflow_sub-size : goal.overflow_sub-size
-overflow_sub-size c = let t = here (goal.at.overflow_sub-size c).In-Item in omega (arith, t.value-end)
+returns g c p h =
+    let l = c.loop in
+    sym (l.invariant.3 p h ∙ measure-behind p c.args.area.now l.at l.n l.size l.invariant.0 (c.args.count - l.counter) (omega arith) c.if-at-area.false)

@@ -1,7 +1,6 @@
 use mathlib.Core.Path.{◌∙◌}
 use native.Mathlib.Nat.{zero-add}
 use native.Mathlib.Omega.{arith}
-use borrow.Author.Rules.{rules}
 use Rattle.lists.proofs.Wrote.{start, next, from_start}
 use Rattle.area_edit.specs.Edits.{fresh, appended}
 use Rattle.area_edit.proofs.put_appended.Goals as goal

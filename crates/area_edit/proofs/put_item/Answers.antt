@@ -1,6 +1,5 @@
 use mathlib.Core.List.{◌∷◌, []}
 use native.Mathlib.Omega.{arith}
-use borrow.Author.Rules.{rules}
 use lib.ListN.{length}
 use Rattle.lists.specs.Le.{u32le}
 use Rattle.lists.proofs.Wrote.{start, next, done}

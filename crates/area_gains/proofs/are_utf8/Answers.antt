@@ -1,25 +1,30 @@
-use mathlib.Core.Path.{sym, ◌∙◌}
-use mathlib.Core.Bool.{and-true}
+use mathlib.Core.Path.{◌≡◌, refl, sym, ap, ◌∙◌}
+use mathlib.Core.List.{[]}
+use native.Mathlib.Omega.{arith}
 use borrow.Author.Rules.{rules}
-use borrow.Author.Tests.{not-true, not-false}
+use lib.ListN.{length, get_or, length-map}
+use Rattle.utf8.specs.Utf8.{valid}
+use Rattle.area_gains.proofs.Rest.{lent, lent-at, all-next}
 use Rattle.area_gains.proofs.are_utf8.Goals as goal
+use Rattle.area_gains.proofs.are_utf8.Goals.{After-is_utf8}
+
+five : (c : After-is_utf8) → length c.args.texts ≡ 5
+five c = search rules
+
+-- the turn's text
+here : (c : After-is_utf8) → c.is_utf8.result ≡ valid (get_or (lent c.args.texts) c.loop-i.i [])
+here c =
+    let n = five c in
+    c.is_utf8.ensures ∙ ap valid (lent-at c.args.texts (lent c.args.texts) c.loop-i.i _ refl (omega arith))
 
 pub returns-then-not-is_utf8 : goal.returns-then-not-is_utf8
 returns-then-not-is_utf8 c =
-    rw (sym c.is_utf8.ensures ∙ c.if-not-is_utf8.true)
+    let p = (goal.at.returns-then-not-is_utf8 c).After-is_utf8 in
+    let n = five p in
+    sym (c.loop-i.invariant ∙ all-next (lent c.args.texts) c.loop-i.i (rw length-map (omega arith)) ∙ rw (sym (here p) ∙ c.if-not-is_utf8.true))
 
-pub returns-then-not-is_utf8-2 : goal.returns-then-not-is_utf8-2
-returns-then-not-is_utf8-2 c =
-    rw (sym c.is_utf8.ensures ∙ c.if-not-is_utf8.false, sym c.is_utf8-2.ensures ∙ c.if-not-is_utf8-2.true)
-
-pub returns-then-not-is_utf8-3 : goal.returns-then-not-is_utf8-3
-returns-then-not-is_utf8-3 c =
-    rw (sym c.is_utf8.ensures ∙ c.if-not-is_utf8.false, sym c.is_utf8-2.ensures ∙ c.if-not-is_utf8-2.false, sym c.is_utf8-3.ensures ∙ c.if-not-is_utf8-3.true)
-
-pub returns-then-not-is_utf8-4 : goal.returns-then-not-is_utf8-4
-returns-then-not-is_utf8-4 c =
-    rw (sym c.is_utf8.ensures ∙ c.if-not-is_utf8.false, sym c.is_utf8-2.ensures ∙ c.if-not-is_utf8-2.false, sym c.is_utf8-3.ensures ∙ c.if-not-is_utf8-3.false, sym c.is_utf8-4.ensures ∙ c.if-not-is_utf8-4.true)
-
-pub returns : goal.returns
-returns c =
-    rw (sym c.is_utf8.ensures ∙ c.if-not-is_utf8.false, sym c.is_utf8-2.ensures ∙ c.if-not-is_utf8-2.false, sym c.is_utf8-3.ensures ∙ c.if-not-is_utf8-3.false, sym c.is_utf8-4.ensures ∙ c.if-not-is_utf8-4.false) (c.is_utf8-5.ensures ∙ sym (and-true _))
+pub loop-i-preserved : goal.loop-i-preserved
+loop-i-preserved c =
+    let p = (goal.at.loop-i-preserved c).After-is_utf8 in
+    let n = five p in
+    c.loop-i.invariant ∙ all-next (lent c.args.texts) c.loop-i.i (rw length-map (omega arith)) ∙ rw (sym (here p) ∙ c.if-not-is_utf8.false)

@@ -1,14 +1,17 @@
-use mathlib.Core.Path.{sym}
+use mathlib.Core.Path.{◌≡◌, refl}
+use mathlib.Core.Bool.{Bool, true, false, cond}
+use Prim.Native.Nat.{◌+◌}
 use native.Mathlib.Omega.{arith}
-use borrow.Author.Rules.{rules}
-use Rattle.area_gains.proofs.Rest.{capped-in, capped-out}
+use lib.Dec.{leb}
+use borrow.Author.Tests.{leb-true, leb-false}
+use Rattle.replies.specs.Limits.{file_limit}
+use Rattle.area_gains.specs.Gains.{capped}
 use Rattle.area_gains.proofs.grown.Goals as goal
 
-pub returns-then-size-gt-FILE_LIMIT : goal.returns-then-size-gt-FILE_LIMIT
-returns-then-size-gt-FILE_LIMIT c = sym (capped-out _ (omega arith))
-
-pub returns-then-more-size : goal.returns-then-more-size
-returns-then-more-size c = sym (capped-out _ (omega arith))
-
 pub returns : goal.returns
-returns c = sym (capped-in _ (omega arith))
+unfolding capped
+returns c = go (leb (c.args.size + c.args.more) file_limit) refl
+  where
+    go : (t : Bool) → leb (c.args.size + c.args.more) file_limit ≡ t → c.min.result ≡ cond t (c.args.size + c.args.more) (file_limit + 1)
+    go true e = let h = leb-true _ _ e in omega arith
+    go false e = let h = leb-false _ _ e in omega arith

@@ -1,20 +1,11 @@
 use mathlib.Core.Path.{sym, ap, ◌∙◌}
-use Prim.Native.Nat.{◌≤◌, ◌<◌}
-use borrow.Author.Rules.{rules}
-use borrow.Author.Tests.{lt-ltb, le-ltb}
-use Rattle.area_gains.proofs.Marks.{place_by, place_is}
+use Rattle.std.specs.Prelude.{None}
+use Rattle.lists.specs.Choice.{found}
+use Rattle.area_gains.proofs.Marks.{place_is, place_by, sub_is}
 use Rattle.area_gains.proofs.place.Goals as goal
 
-pub returns-in_default : goal.returns-in_default
-returns-in_default c =
-    sym (place_is c.args.key.now ∙ ap place_by (sym c.which_key-w.ensures ∙ c.in_default.is))
-
-pub returns-then-i-lt3 : goal.returns-then-i-lt3
-returns-then-i-lt3 c =
-    let low : c.in-Key.i < 3 = c.if-i-lt3.true in
-    sym (place_is c.args.key.now ∙ ap place_by (sym c.which_key-w.ensures ∙ c.in-Key.is) ∙ rw (lt-ltb _ _ low))
+pub returns-in_err-which_key : goal.returns-in_err-which_key
+returns-in_err-which_key c = c.from_residual.ensures ∙ ap (λ o. found o None place_by) c.in_err-which_key.ensures ∙ sym (place_is c.args.key.now)
 
 pub returns : goal.returns
-returns c =
-    let high : 3 ≤ c.in-Key.i = c.if-i-lt3.false in
-    sym (place_is c.args.key.now ∙ ap place_by (sym c.which_key-w.ensures ∙ c.in-Key.is) ∙ rw (le-ltb _ _ high))
+returns c = sub_is c.checked_sub.result c.in_ok-which_key.field-0 c.checked_sub.ensures ∙ ap (λ o. found o None place_by) c.in_ok-which_key.ensures ∙ sym (place_is c.args.key.now)

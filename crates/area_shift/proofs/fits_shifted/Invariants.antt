@@ -8,8 +8,5 @@ use Rattle.items.proofs.Loops.{Turn, turn, never}
 use Rattle.area_shift.proofs.Shifting.{Sizing, size-begin, size-drop, size-keep, size-over, size_fits, ample}
 use Rattle.area_shift.proofs.fits_shifted.Given as goal
 
-abbrev pub invariant-loop-left : goal.invariant-loop-left
-invariant-loop-left l = Sizing l.mode l.steps.0 l.area l.count l.at l.left l.size × (l.size ≤ l.limit)
-
-abbrev pub decreases-loop-left : goal.decreases-loop-left
-decreases-loop-left l = l.left
+abbrev pub invariant-loop : goal.invariant-loop
+invariant-loop l = Sizing l.mode l.steps.0 l.area l.count l.at (l.count - l.counter) l.size × (l.size ≤ l.limit)

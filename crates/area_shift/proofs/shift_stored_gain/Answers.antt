@@ -41,24 +41,24 @@ steps c =
     c.is_step.ensures ∙ ap is_step (to_z-of_z h) in it)) ∙ c.if-not-is_step.false
 
 pub fits_shifted-requires : goal.fits_shifted-requires
-fits_shifted-requires c = (good (goal.at.fits_shifted-requires c).Else-not-well_formed, omega (arith, c.smaller.ensures))
+fits_shifted-requires c = (good (goal.at.fits_shifted-requires c).Else-not-well_formed, omega (arith, c.min-limit.ensures))
 
 pub returns-then-not-fits_shifted : goal.returns-then-not-fits_shifted
 returns-then-not-fits_shifted c =
     let g = c.args in
     refused g.out.now
     (shift-5 g.mode g.steps.0 g.count g.area.now _ (good (goal.at.returns-then-not-fits_shifted c).Else-not-well_formed) (steps (goal.at.returns-then-not-fits_shifted c).Else-not-is_step)
-    (fits-no _ c.smaller.result _ c.fits_shifted.result c.smaller.ensures c.fits_shifted.ensures c.if-not-fits_shifted.true))
+    (fits-no _ c.min-limit.result _ c.fits_shifted.result c.min-limit.ensures c.fits_shifted.ensures c.if-not-fits_shifted.true))
 
-pub write_shifted-w-requires : goal.write_shifted-w-requires
-write_shifted-w-requires c =
-    (good (goal.at.write_shifted-w-requires c).Else-not-well_formed, room_for _ c.smaller.result _ c.fits_shifted.result c.smaller.ensures c.fits_shifted.ensures c.if-not-fits_shifted.false)
+pub write_shifted-requires : goal.write_shifted-requires
+write_shifted-requires c =
+    (good (goal.at.write_shifted-requires c).Else-not-well_formed, room_for _ c.min-limit.result _ c.fits_shifted.result c.min-limit.ensures c.fits_shifted.ensures c.if-not-fits_shifted.false)
 
 pub returns : goal.returns
 returns c =
     let g = c.args in
-    let e = c.write_shifted-w.ensures in
+    let e = c.write_shifted.ensures in
     finished g.out.now
     (shift-yes g.mode g.steps.0 g.count g.area.now _ (good (goal.at.returns c).Else-not-well_formed) (steps (goal.at.returns c).Else-not-is_step)
-    (fits_all _ c.smaller.result _ c.fits_shifted.result c.smaller.ensures c.fits_shifted.ensures c.if-not-fits_shifted.false))
+    (fits_all _ c.min-limit.result _ c.fits_shifted.result c.min-limit.ensures c.fits_shifted.ensures c.if-not-fits_shifted.false))
     e.0 e.1 e.2

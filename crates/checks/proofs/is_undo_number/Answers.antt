@@ -8,5 +8,5 @@ use Rattle.checks.proofs.is_undo_number.Goals as goal
 
 pub returns : goal.returns
 returns c =
-    let a = c.take_apart-a in
+    let a = c.take_apart in
     ap (λ n. ltb n 32768) (by-mag a.result ∙ ap mag (taken c.args.n a.result c.ranges.n a.ensures).1)

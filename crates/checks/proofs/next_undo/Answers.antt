@@ -1,96 +1,62 @@
-use borrow.Author.Rules.{rules}
-use borrow.Author.Tests.{not-true, not-false}
 use mathlib.Core.Path.{◌≡◌, sym, ap, ◌∙◌}
 use mathlib.Core.Bool.{true, false}
 use mathlib.Core.List.{List}
+use Rattle.std.specs.Prelude.{Some, Ok}
 use native.Mathlib.Omega.{arith}
-use mir.Syntax.{w32}
-use mir.Val.{SFits}
-use mir.Facts.{to_z-of_z}
-use Rattle.lists.specs.Choice.{found}
+use borrow.Author.Rules.{rules}
+use Rattle.lists.specs.Bytes.{Small}
 use Rattle.keys.specs.Keys.{undo_key}
-use Rattle.keys.proofs.Keys.{undo-keys}
 use Rattle.items.specs.Items.{Item, items_in, is_repeated}
-use Rattle.items.specs.Answers.{found_repeated}
-use Rattle.items.proofs.Places.{got}
-use Rattle.items.proofs.Finding.{get-is, repeated-is}
-use Rattle.calls.specs.Calls.{Level, stored_undo, agrees, booked, is_undo_number}
-use Rattle.checks.proofs.Numbers.{next-14, flag-found, numbers-found, next-9, next-left, next-right, next_both}
+use Rattle.items.specs.Answers.{value_of}
+use Rattle.calls.specs.Calls.{Level, stored_undo, agrees}
+use Rattle.checks.specs.Checks.{next_undo_answer}
+use Rattle.checks.proofs.Numbers.{next-14, next-none, next-9, next-some}
+use Rattle.checks.proofs.Stored.{searched, nothing, something}
+use Rattle.gains.specs.Moves.{level_by}
 use Rattle.checks.proofs.next_undo.Goals as goal
-use Rattle.checks.proofs.next_undo.Goals.{After-accumulate_undo-u, After-find-f, After-flag_fits, After-is_repeated, After-is_undo_number, After-is_undo_number-2, Else-is_repeated, Else-not-flag_fits, Else-not-is_undo_number, Start}
+use Rattle.checks.proofs.next_undo.Goals.{After-find, In-Some, Start}
 
 -- what level is asked, and the items that it finds
 abbrev asked : (b : Start) → Level
-asked b = record { left = b.args.left_steps.0; right = b.args.right_steps.0; mode = b.args.mode }
+asked b = level_by b.args.moves
 
 abbrev there : (b : Start) → List Item
 there b = items_in b.args.count b.args.area.now
 
--- what the search found is the stored text
-text : (c : After-find-f) → got c.args.area.now c.find-f.result ≡ stored_undo ((items_in c.args.count c.args.area.now))
-unfolding stored_undo undo_key
-text c =
-    let s = c.args.area.now in
-    ap (got s) c.find-f.ensures ∙ get-is s c.args.count undo_key (λ i. omega (arith, c.shared_slice_known-1.given i)) c.requires undo-keys.0
+small : (b : After-find) → Small b.args.area.now
+small b = λ i. omega (arith, b.shared_slice_known-1.given i)
 
--- whether there is a second one
-repeated : (c : After-is_repeated) → is_repeated undo_key ((items_in c.args.count c.args.area.now)) ≡ c.is_repeated.result
+-- one is stored
+found : (c : In-Some) → (stored_undo (items_in c.args.count c.args.area.now) ≡ Some (value_of c.args.area.now c.in-Some.f))
+    × (is_repeated undo_key (items_in c.args.count c.args.area.now) ≡ c.in-Some.f.repeated)
 unfolding undo_key
-repeated c = sym (c.is_repeated.ensures ∙ ap found_repeated c.find-f.ensures ∙ repeated-is c.args.area.now c.args.count undo_key c.requires undo-keys.0)
+found c = something c.args.area.now c.args.count (λ i. omega (arith, c.shared_slice_known-1.given i)) c.requires (sym (ap Ok c.in-Some.is) ∙ c.in_ok-f.ensures)
 
-pub returns-then-is_repeated : goal.returns-then-is_repeated
-returns-then-is_repeated c = rw (next-14 (asked (goal.at.returns-then-is_repeated c).Start) (there (goal.at.returns-then-is_repeated c).Start) (repeated (goal.at.returns-then-is_repeated c).After-is_repeated ∙ c.if-is_repeated.true))
-
-once : (c : Else-is_repeated) → is_repeated undo_key ((items_in c.args.count c.args.area.now)) ≡ false
+pub returns-in_err-f : goal.returns-in_err-f
 unfolding undo_key
-once c = (let it : is_repeated undo_key ((items_in c.args.count c.args.area.now)) ≡ c.is_repeated.result = sym (c.is_repeated.ensures ∙ ap found_repeated c.find-f.ensures ∙ repeated-is c.args.area.now c.args.count undo_key c.requires undo-keys.0) in it) ∙ c.if-is_repeated.false
+returns-in_err-f c = absurd (searched c.args.area.now c.args.count (small (goal.at.returns-in_err-f c).After-find) c.requires c.in_err-f.ensures)
 
-flag : (c : After-flag_fits) → found (stored_undo ((items_in c.args.count c.args.area.now))) true (agrees c.args.mode) ≡ c.flag_fits.result
-unfolding stored_undo undo_key
-flag c =
-    flag-found c.args.area.now c.find-f.result ((record { left = c.args.left_steps.0; right = c.args.right_steps.0; mode = c.args.mode })) ((items_in c.args.count c.args.area.now)) ((let it : got c.args.area.now c.find-f.result ≡ stored_undo ((items_in c.args.count c.args.area.now)) = let s = c.args.area.now in
-    ap (got s) c.find-f.ensures ∙ get-is s c.args.count undo_key (λ i. omega (arith, c.shared_slice_known-1.given i)) c.requires undo-keys.0 in it)) c.flag_fits.ensures
+pub returns-in_default : goal.returns-in_default
+unfolding undo_key
+returns-in_default c =
+    let b = (goal.at.returns-in_default c).Start in
+    let n = nothing c.args.area.now c.args.count (small (goal.at.returns-in_default c).After-find) c.requires (sym (ap Ok c.in_default.is) ∙ c.in_ok-f.ensures) in
+    c.next_numbers.ensures ∙ ap next_undo_answer (sym (next-none (asked b) (there b) n.1 n.0))
 
-pub returns-then-not-flag_fits : goal.returns-then-not-flag_fits
-returns-then-not-flag_fits c = rw (next-9 (asked (goal.at.returns-then-not-flag_fits c).Start) (there (goal.at.returns-then-not-flag_fits c).Start) (once (goal.at.returns-then-not-flag_fits c).Else-is_repeated) (flag (goal.at.returns-then-not-flag_fits c).After-flag_fits ∙ c.if-not-flag_fits.true))
+pub returns-then-f : goal.returns-then-f
+returns-then-f c =
+    let p = goal.at.returns-then-f c in
+    rw (next-14 (asked p.Start) (there p.Start) ((found p.In-Some).1 ∙ c.if-f.true))
 
--- the flag agrees
-fits : (c : Else-not-flag_fits) → found (stored_undo ((items_in c.args.count c.args.area.now))) true (agrees c.args.mode) ≡ true
-unfolding stored_undo undo_key
-fits c =
-    (let it : found (stored_undo ((items_in c.args.count c.args.area.now))) true (agrees c.args.mode) ≡ c.flag_fits.result = flag-found c.args.area.now c.find-f.result ((record { left = c.args.left_steps.0; right = c.args.right_steps.0; mode = c.args.mode })) ((items_in c.args.count c.args.area.now)) ((let it : got c.args.area.now c.find-f.result ≡ stored_undo ((items_in c.args.count c.args.area.now)) = let s = c.args.area.now in
-    ap (got s) c.find-f.ensures ∙ get-is s c.args.count undo_key (λ i. omega (arith, c.shared_slice_known-1.given i)) c.requires undo-keys.0 in it)) c.flag_fits.ensures in it) ∙ c.if-not-flag_fits.false
-
--- the numbers
-numbers : (c : After-accumulate_undo-u) → booked ((record { left = c.args.left_steps.0; right = c.args.right_steps.0; mode = c.args.mode })) ((items_in c.args.count c.args.area.now)) ≡ c.accumulate_undo-u.result
-unfolding stored_undo undo_key
-numbers c =
-    numbers-found c.args.area.now c.find-f.result ((record { left = c.args.left_steps.0; right = c.args.right_steps.0; mode = c.args.mode })) ((items_in c.args.count c.args.area.now)) ((let it : got c.args.area.now c.find-f.result ≡ stored_undo ((items_in c.args.count c.args.area.now)) = let s = c.args.area.now in
-    ap (got s) c.find-f.ensures ∙ get-is s c.args.count undo_key (λ i. omega (arith, c.shared_slice_known-1.given i)) c.requires undo-keys.0 in it)) (c.accumulate_undo-u.ensures ∙ rw c.value.ensures.0)
-
-left-number : (c : After-is_undo_number) → c.is_undo_number.result ≡ is_undo_number c.accumulate_undo-u.result.left
-left-number c =
-    let h : SFits w32 c.accumulate_undo-u.result.left = search rules in
-    c.is_undo_number.ensures ∙ ap is_undo_number (to_z-of_z h)
-
-right-number : (c : After-is_undo_number-2) → c.is_undo_number-2.result ≡ is_undo_number c.accumulate_undo-u.result.right
-right-number c =
-    let h : SFits w32 c.accumulate_undo-u.result.right = search rules in
-    c.is_undo_number-2.ensures ∙ ap is_undo_number (to_z-of_z h)
-
-pub returns-then-not-is_undo_number : goal.returns-then-not-is_undo_number
-returns-then-not-is_undo_number c =
-    rw (next-left (asked (goal.at.returns-then-not-is_undo_number c).Start) (there (goal.at.returns-then-not-is_undo_number c).Start) (once (goal.at.returns-then-not-is_undo_number c).Else-is_repeated) (fits (goal.at.returns-then-not-is_undo_number c).Else-not-flag_fits) c.accumulate_undo-u.result (numbers (goal.at.returns-then-not-is_undo_number c).After-accumulate_undo-u) (sym (left-number (goal.at.returns-then-not-is_undo_number c).After-is_undo_number) ∙ c.if-not-is_undo_number.true))
-
-left-fits : (c : Else-not-is_undo_number) → is_undo_number c.accumulate_undo-u.result.left ≡ true
-left-fits c =
-    sym ((let it : c.is_undo_number.result ≡ is_undo_number c.accumulate_undo-u.result.left = let h : SFits w32 c.accumulate_undo-u.result.left = search rules in
-    c.is_undo_number.ensures ∙ ap is_undo_number (to_z-of_z h) in it)) ∙ c.if-not-is_undo_number.false
-
-pub returns-then-not-is_undo_number-2 : goal.returns-then-not-is_undo_number-2
-returns-then-not-is_undo_number-2 c =
-    rw (next-right (asked (goal.at.returns-then-not-is_undo_number-2 c).Start) (there (goal.at.returns-then-not-is_undo_number-2 c).Start) (once (goal.at.returns-then-not-is_undo_number-2 c).Else-is_repeated) (fits (goal.at.returns-then-not-is_undo_number-2 c).Else-not-flag_fits) c.accumulate_undo-u.result (numbers (goal.at.returns-then-not-is_undo_number-2 c).After-accumulate_undo-u) (left-fits (goal.at.returns-then-not-is_undo_number-2 c).Else-not-is_undo_number) (sym (right-number (goal.at.returns-then-not-is_undo_number-2 c).After-is_undo_number-2) ∙ c.if-not-is_undo_number-2.true))
+-- whether its flag is that of the call
+pub returns-then-not-agrees : goal.returns-then-not-agrees
+returns-then-not-agrees c =
+    let p = goal.at.returns-then-not-agrees c in
+    let f = found p.In-Some in
+    rw (next-9 (asked p.Start) (there p.Start) (f.1 ∙ c.if-f.false) f.0 (ap (agrees c.args.moves.mode) (sym c.part-text.ensures.0) ∙ sym c.agrees.ensures ∙ c.if-not-agrees.true))
 
 pub returns : goal.returns
 returns c =
-    rw (next_both (asked (goal.at.returns c).Start) (there (goal.at.returns c).Start) (once (goal.at.returns c).Else-is_repeated) (fits (goal.at.returns c).Else-not-flag_fits) c.accumulate_undo-u.result (numbers (goal.at.returns c).After-accumulate_undo-u) (left-fits (goal.at.returns c).Else-not-is_undo_number) (sym (right-number (goal.at.returns c).After-is_undo_number-2) ∙ c.if-not-is_undo_number-2.false))
+    let p = goal.at.returns c in
+    let f = found p.In-Some in
+    rw (next-some (asked p.Start) (there p.Start) (f.1 ∙ c.if-f.false) f.0 (ap (agrees c.args.moves.mode) (sym c.part-text.ensures.0) ∙ sym c.agrees.ensures ∙ c.if-not-agrees.false), ← c.part-text.ensures.0) c.next_numbers-2.ensures

@@ -1,23 +1,21 @@
-use borrow.Author.Rules.{rules}
-use mathlib.Core.Path.{sym, ap, ◌∙◌}
+use mathlib.Core.Path.{◌≡◌, sym, ap, ◌∙◌}
+use Rattle.std.specs.Prelude.{Some}
 use Rattle.lists.proofs.Wrote.{rest}
 use Rattle.number.specs.Reading.{unsigned}
-use Rattle.decibels.specs.Gain.{millionths, parse_gain, count_is}
-use Rattle.decibels.specs.declared.GainField.TheVariants.{Value}
-use Rattle.decibels.proofs.Texts.{count-is, no-count}
+use Rattle.decibels.specs.Gain.{millionths, parse_gain}
 use Rattle.decibels.proofs.parse_gain.Goals as goal
+use Rattle.decibels.proofs.parse_gain.Goals.{After-parse_millionths}
 
-pub returns-in_default : goal.returns-in_default
+-- the count of what follows the sign
+count : (c : After-parse_millionths) → c.parse_millionths.result ≡ millionths (unsigned c.args.text.now)
+count c = c.parse_millionths.ensures ∙ ap millionths (rest c.args.text.now c.sign_len.result ∙ c.sign_len.ensures.1)
+
+pub returns-in_err-n : goal.returns-in_err-n
 unfolding parse_gain
-returns-in_default c =
-    let s = c.args.text.now in
-    let t = rest s c.sign_len-at.result ∙ c.sign_len-at.ensures.1 in
-    rw (no-count (millionths (unsigned s)) (sym c.in_default.is ∙ c.parse_millionths.ensures ∙ ap (λ u. count_is (millionths u)) t))
+returns-in_err-n c = rw (sym (count (goal.at.returns-in_err-n c).After-parse_millionths) ∙ c.in_err-n.was) c.from_residual.ensures
 
 pub returns : goal.returns
 unfolding parse_gain
 returns c =
-    let s = c.args.text.now in
-    let t = rest s c.sign_len-at.result ∙ c.sign_len-at.ensures.1 in
-    let e = count-is (millionths (unsigned s)) c.in-Value.n (sym c.in-Value.is ∙ c.parse_millionths.ensures ∙ ap (λ u. count_is (millionths u)) t) in
-    rw e (ap (λ x. Value (record { 0 = x; 1 = c.in-Value.n; 2 = 0 })) c.is_minus-minus.ensures)
+    rw (sym (count (goal.at.returns c).After-parse_millionths) ∙ c.in_ok-n.was)
+    (ap (λ x. Some (record { 0 = x; 1 = c.in_ok-n.n; 2 = 0 })) c.is_minus-minus.ensures)

@@ -1,4 +1,3 @@
-use borrow.Author.Rules.{rules}
 use Prim.Native.Nat.{◌+◌, ◌/◌}
 use mathlib.Core.Path.{◌≡◌}
 use native.Mathlib.Omega.{arith}
@@ -12,9 +11,9 @@ returns-then-a-lt500000000 c =
     let e : (units a + 500000000) / 1000000000 ≡ a.1 = omega (arith, c.requires) in
     (rw e, omega (arith, c.requires))
 
-pub returns : goal.returns
+pub returns-else-a-lt500000000 : goal.returns-else-a-lt500000000
 unfolding nearest
-returns c =
+returns-else-a-lt500000000 c =
     let a = c.args.a in
     let e : (units a + 500000000) / 1000000000 ≡ a.1 + 1 = omega (arith, c.requires) in
     (rw e, omega (arith, c.requires))

@@ -1,6 +1,5 @@
 use mathlib.Core.Path.{◌≡◌, refl}
 use native.Mathlib.Omega.{arith}
-use borrow.Author.Rules.{rules}
 use lib.ListN.{length}
 use Rattle.items.specs.Items.{area_bytes, items_in}
 use Rattle.items.proofs.Area.{count-items, area-length}

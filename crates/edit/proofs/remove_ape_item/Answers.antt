@@ -1,15 +1,15 @@
+use Rattle.std.specs.Prelude.{Err}
 use mathlib.Core.Path.{◌≡◌, refl, sym, ◌∙◌}
 use mathlib.Core.List.{[]}
 use mathlib.Core.Bool.{true}
 use borrow.Author.Rules.{rules}
-use borrow.Author.Tests.{not-true, not-false}
 use lib.ListN.{length}
-use Rattle.keys.specs.Keys.{is_key}
+use Rattle.keys.specs.Keys.{same_key, is_key}
 use Rattle.gate.specs.Gate.{Passed}
 use Rattle.gate.proofs.Gates.{gate-unfit, gate-passed}
 use Rattle.edit.proofs.Plans.{remove-1, remove-3, remove-8, remove-rest}
 use Rattle.edit.proofs.remove_ape_item.Goals as goal
-use Rattle.edit.proofs.remove_ape_item.Goals.{Else-not-is_key, In-Items}
+use Rattle.edit.proofs.remove_ape_item.Goals.{Else-not-is_key, In_ok-place}
 
 pub returns-then-file-gt-FILE_LIMIT : goal.returns-then-file-gt-FILE_LIMIT
 returns-then-file-gt-FILE_LIMIT c = let g = c.args in rw (remove-1 g.file.now g.key.now [] (length g.out.now) c.if-file-gt-FILE_LIMIT.true) (refl, refl)
@@ -23,19 +23,25 @@ returns-then-not-is_key c =
 key : (c : Else-not-is_key) → is_key c.args.key.now ≡ true
 key c = sym c.is_key.ensures ∙ c.if-not-is_key.false
 
-pub returns-in_default : goal.returns-in_default
-returns-in_default c =
+pub returns-in_err-place : goal.returns-in_err-place
+returns-in_err-place c =
     let g = c.args in
-    rw (remove-8 g.file.now g.key.now [] (length g.out.now) c.if-file-gt-FILE_LIMIT.false (key (goal.at.returns-in_default c).Else-not-is_key) (gate-unfit g.file.now c.gate-g.result c.gate-g.ensures c.in_default.is)) (refl, refl)
+    let u = gate-unfit g.file.now c.gate.ensures c.in_err-place.was in
+    let r : c.from_residual.result ≡ Err c.in_err-place.field-0.0 = search rules in
+    rw (remove-8 g.file.now g.key.now [] (length g.out.now) c.if-file-gt-FILE_LIMIT.false (key (goal.at.returns-in_err-place c).Else-not-is_key) u.0, r, u.1) (refl, refl)
 
 -- and the file is fit for editing
-passed : (c : In-Items) → Passed c.args.file.now c.in-Items.start c.in-Items.end c.in-Items.count
-passed c = gate-passed c.args.file.now c.gate-g.result c.in-Items.start c.in-Items.end c.in-Items.count c.gate-g.ensures c.in-Items.is
+passed : (c : In_ok-place) → Passed c.args.file.now c.in_ok-place.place
+passed c = gate-passed c.args.file.now c.gate.ensures c.in_ok-place.was
+
+pub drop_items-requires-clause-tests : goal.drop_items-requires-clause-tests
+drop_items-requires-clause-tests c = (same_key c.args.key.now, λ k b s e. search rules)
+
+pub drop_items-requires-clause-fit : goal.drop_items-requires-clause-fit
+drop_items-requires-clause-fit c = (passed (goal.at.drop_items-requires-clause-fit c).In_ok-place, c.if-file-gt-FILE_LIMIT.false)
 
 pub returns : goal.returns
 returns c =
     let g = c.args in
-    rw (remove-rest g.file.now g.key.now [] (length g.out.now) c.if-file-gt-FILE_LIMIT.false (key (goal.at.returns c).Else-not-is_key) (passed (goal.at.returns c).In-Items).passes) c.drop_items.ensures
-
-pub drop_items-requires : goal.drop_items-requires
-drop_items-requires c = (passed (goal.at.drop_items-requires c).In-Items, c.if-file-gt-FILE_LIMIT.false)
+    rw (remove-rest g.file.now g.key.now [] (length g.out.now) c.if-file-gt-FILE_LIMIT.false (key (goal.at.returns c).Else-not-is_key) (passed (goal.at.returns c).In_ok-place).passes)
+    (c.drop_items.ensures (same_key g.key.now) (λ k b s e. search rules))

@@ -1,7 +1,7 @@
+use Rattle.std.specs.Prelude.{Err}
 use mathlib.Core.Path.{◌≡◌, refl, sym, ◌∙◌}
 use mathlib.Core.Bool.{true}
 use borrow.Author.Rules.{rules}
-use borrow.Author.Tests.{not-true, not-false}
 use lib.ListN.{length}
 use Rattle.utf8.specs.Utf8.{valid}
 use Rattle.keys.specs.Keys.{is_key}
@@ -9,7 +9,7 @@ use Rattle.gate.specs.Gate.{Passed}
 use Rattle.gate.proofs.Gates.{gate-unfit, gate-passed}
 use Rattle.edit.proofs.Plans.{set-1, set-3, set-4, set-8, set-6, set_rest}
 use Rattle.edit.proofs.set_ape_item.Goals as goal
-use Rattle.edit.proofs.set_ape_item.Goals.{Else-not-is_key, Else-not-is_utf8, In-Items}
+use Rattle.edit.proofs.set_ape_item.Goals.{Else-not-is_key, Else-not-is_utf8, In_ok-place}
 
 pub returns-then-file-gt-FILE_LIMIT : goal.returns-then-file-gt-FILE_LIMIT
 returns-then-file-gt-FILE_LIMIT c = let g = c.args in rw (set-1 g.file.now g.key.now g.value.now (length g.out.now) c.if-file-gt-FILE_LIMIT.true) (refl, refl)
@@ -32,25 +32,27 @@ returns-then-not-is_utf8 c =
 text : (c : Else-not-is_utf8) → valid c.args.value.now ≡ true
 text c = sym c.is_utf8.ensures ∙ c.if-not-is_utf8.false
 
-pub returns-in_default : goal.returns-in_default
-returns-in_default c =
+pub returns-in_err-place : goal.returns-in_err-place
+returns-in_err-place c =
     let g = c.args in
-    rw (set-8 g.file.now g.key.now g.value.now (length g.out.now) c.if-file-gt-FILE_LIMIT.false (key (goal.at.returns-in_default c).Else-not-is_key) (text (goal.at.returns-in_default c).Else-not-is_utf8) (gate-unfit g.file.now c.gate-g.result c.gate-g.ensures c.in_default.is)) (refl, refl)
+    let u = gate-unfit g.file.now c.gate.ensures c.in_err-place.was in
+    let r : c.from_residual.result ≡ Err c.in_err-place.field-0.0 = search rules in
+    rw (set-8 g.file.now g.key.now g.value.now (length g.out.now) c.if-file-gt-FILE_LIMIT.false (key (goal.at.returns-in_err-place c).Else-not-is_key) (text (goal.at.returns-in_err-place c).Else-not-is_utf8) u.0, r, u.1) (refl, refl)
 
 -- and the file is fit for editing
-passed : (c : In-Items) → Passed c.args.file.now c.in-Items.start c.in-Items.end c.in-Items.count
-passed c = gate-passed c.args.file.now c.gate-g.result c.in-Items.start c.in-Items.end c.in-Items.count c.gate-g.ensures c.in-Items.is
+passed : (c : In_ok-place) → Passed c.args.file.now c.in_ok-place.place
+passed c = gate-passed c.args.file.now c.gate.ensures c.in_ok-place.was
 
 pub returns-then-value-gt-AREA_LIMIT : goal.returns-then-value-gt-AREA_LIMIT
 returns-then-value-gt-AREA_LIMIT c =
     let g = c.args in
-    rw (set-6 g.file.now g.key.now g.value.now (length g.out.now) c.if-file-gt-FILE_LIMIT.false (key (goal.at.returns-then-value-gt-AREA_LIMIT c).Else-not-is_key) (text (goal.at.returns-then-value-gt-AREA_LIMIT c).Else-not-is_utf8) (passed (goal.at.returns-then-value-gt-AREA_LIMIT c).In-Items).passes c.if-value-gt-AREA_LIMIT.true) (refl, refl)
+    rw (set-6 g.file.now g.key.now g.value.now (length g.out.now) c.if-file-gt-FILE_LIMIT.false (key (goal.at.returns-then-value-gt-AREA_LIMIT c).Else-not-is_key) (text (goal.at.returns-then-value-gt-AREA_LIMIT c).Else-not-is_utf8) (passed (goal.at.returns-then-value-gt-AREA_LIMIT c).In_ok-place).passes c.if-value-gt-AREA_LIMIT.true) (refl, refl)
 
 pub set_item-requires : goal.set_item-requires
 set_item-requires c =
-    (passed (goal.at.set_item-requires c).In-Items, c.if-file-gt-FILE_LIMIT.false, key (goal.at.set_item-requires c).Else-not-is_key, c.if-value-gt-AREA_LIMIT.false)
+    (passed (goal.at.set_item-requires c).In_ok-place, c.if-file-gt-FILE_LIMIT.false, key (goal.at.set_item-requires c).Else-not-is_key, c.if-value-gt-AREA_LIMIT.false)
 
 pub returns : goal.returns
 returns c =
     let g = c.args in
-    rw (set_rest g.file.now g.key.now g.value.now (length g.out.now) c.if-file-gt-FILE_LIMIT.false (key (goal.at.returns c).Else-not-is_key) (text (goal.at.returns c).Else-not-is_utf8) (passed (goal.at.returns c).In-Items).passes) c.set_item.ensures
+    rw (set_rest g.file.now g.key.now g.value.now (length g.out.now) c.if-file-gt-FILE_LIMIT.false (key (goal.at.returns c).Else-not-is_key) (text (goal.at.returns c).Else-not-is_utf8) (passed (goal.at.returns c).In_ok-place).passes) c.set_item.ensures

@@ -1,21 +1,20 @@
-use borrow.Author.Rules.{rules}
-use mathlib.Core.Path.{sym, ap, ◌∙◌}
-use Rattle.number.specs.Reading.{natural_of}
+use Prim.Native.Nat.{◌<◌}
+use mathlib.Core.Path.{◌≡◌, sym, ap, ◌∙◌}
+use native.Mathlib.Omega.{arith}
+use lib.ListN.{length, take, drop}
+use Rattle.lists.proofs.Wrote.{rest}
 use Rattle.fixed_ranges.specs.Fixed.{leading}
-use Rattle.fixed_ranges.proofs.Digits.{none-there, few-there, three-there}
+use Rattle.fixed_ranges.proofs.Digits.{none-there, up_to_three}
 use Rattle.fixed_ranges.proofs.leading_at.Goals as goal
 
-pub returns-then-s-at : goal.returns-then-s-at
-returns-then-s-at c =
-    let g = c.args in
-    ap natural_of (sym (none-there g.s.now g.at c.if-s-at.true))
-
-pub returns-then-rest-lt3 : goal.returns-then-rest-lt3
-returns-then-rest-lt3 c =
-    let g = c.args in
-    c.leading.ensures ∙ ap (λ t. natural_of (leading t)) (sym (few-there g.s.now g.at c.if-rest-lt3.true))
+pub returns-in_err-rest : goal.returns-in_err-rest
+returns-in_err-rest c =
+    let h : length c.args.s.now < c.args.at = omega (arith, c.in_err-rest.ensures.lookup) in
+    c.from_residual.ensures ∙ sym (none-there c.args.s.now c.args.at h)
 
 pub returns : goal.returns
 returns c =
-    let g = c.args in
-    c.leading-2.ensures ∙ ap (λ t. natural_of (leading t)) (three-there g.s.now g.at)
+    let s = c.args.s.now in
+    let t = c.in_ok-rest.rest.now in
+    let r : t ≡ drop c.args.at s = c.in_ok-rest.ensures.lookup.0.2 ∙ rest s c.args.at in
+    c.leading.ensures ∙ rw c.min.ensures (ap leading (up_to_three t)) ∙ ap (λ u. leading (take 3 u)) r

@@ -1,7 +1,6 @@
 use mathlib.Core.Path.{◌≡◌}
 use mathlib.Core.List.{◌++◌}
 use native.Mathlib.Omega.{arith}
-use borrow.Author.Rules.{rules}
 use Rattle.calls.specs.Calls.{adjusted, least, greatest}
 use Rattle.gains.proofs.Ranges.{least-small, least-append, greatest-append}
 use Rattle.gains.proofs.range_after.Goals as goal
@@ -9,8 +8,8 @@ use Rattle.gains.proofs.range_after.Goals as goal
 pub returns : goal.returns
 returns c =
     let g = c.args in
-    let l = adjusted g.mode g.left_steps.0 g.left.now in
-    let r = adjusted g.mode g.right_steps.0 g.right.now in
+    let l = adjusted g.moves.mode g.moves.left.0 g.left.now in
+    let r = adjusted g.moves.mode g.moves.right.0 g.right.now in
     let first = c.widened.ensures in
     let second = c.widened-2.ensures in
     let low : c.widened-2.result.least ≡ least (l ++ r) = omega (arith, second.0, first.0, least-append l r, least-small l) in

@@ -2,7 +2,7 @@
 use mathlib.Core.Path.{◌≡◌, refl, sym, ap, ◌∙◌}
 use mathlib.Core.Bool.{true}
 use mathlib.Core.List.{◌∷◌}
-use Prim.Native.Nat.{◌-◌}
+use Prim.Native.Nat.{◌+◌, ◌-◌}
 use native.Mathlib.Omega.{arith}
 use borrow.Author.Rules.{rules}
 use borrow.Author.Tests.{not-true, not-false}
@@ -13,8 +13,5 @@ use Rattle.calls.specs.Gate.{item_valid, all_valid}
 use Rattle.gate.proofs.Clean.{by_parts, valid-none, bad-item, valid-more}
 use Rattle.gate.proofs.all_valid.Given as goal
 
-abbrev pub invariant-loop-left : goal.invariant-loop-left
-invariant-loop-left l = Left l.area l.at l.left × (all_valid (items_in l.count l.area) ≡ all_valid (items_in l.left (drop l.at l.area)))
-
-abbrev pub decreases-loop-left : goal.decreases-loop-left
-decreases-loop-left l = l.left
+abbrev pub invariant-loop : goal.invariant-loop
+invariant-loop l = Left l.area l.at (l.count - l.counter) × (all_valid (items_in l.count l.area) ≡ all_valid (items_in (l.count - l.counter) (drop l.at l.area)))

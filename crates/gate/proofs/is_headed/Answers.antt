@@ -12,7 +12,7 @@ use Rattle.frame.specs.Tail.{preamble}
 use Rattle.ape.specs.Tag.{version_at, size_at}
 use Rattle.gate.proofs.Headed.{no-bit, no-preamble, another-version, another-size, another-count, header-bit}
 use Rattle.gate.proofs.is_headed.Goals as goal
-use Rattle.gate.proofs.is_headed.Goals.{Else-not-starts_with, Else-read_u32_le, Else-read_u32_le-lt-APE_FLAG_HEADER_PRESENT, Else-read_u32_le-ne2000}
+use Rattle.gate.proofs.is_headed.Goals.{Else-not-starts_with, Else-read_u32_le, Else-read_u32_le-lt-APE_FLAG_HEADER_PRESENT, Else-read_u32_le-ne-APE_VERSION}
 
 pub returns-then-read_u32_le-lt-APE_FLAG_HEADER_PRESENT : goal.returns-then-read_u32_le-lt-APE_FLAG_HEADER_PRESENT
 returns-then-read_u32_le-lt-APE_FLAG_HEADER_PRESENT c =
@@ -29,16 +29,16 @@ returns-then-not-starts_with c =
 mark : (c : Else-not-starts_with) → starts_with preamble (drop c.args.start c.args.file.now) ≡ true
 mark c = sym c.starts_with.ensures ∙ c.if-not-starts_with.false
 
-pub returns-then-read_u32_le-ne2000 : goal.returns-then-read_u32_le-ne2000
-returns-then-read_u32_le-ne2000 c =
-    another-version c.args.file.now c.args.footer c.args.start c.requires.2 (bit (goal.at.returns-then-read_u32_le-ne2000 c).Else-read_u32_le-lt-APE_FLAG_HEADER_PRESENT) (mark (goal.at.returns-then-read_u32_le-ne2000 c).Else-not-starts_with) (λ q. c.if-read_u32_le-ne2000.true (c.read_u32_le-2.ensures ∙ q))
+pub returns-then-read_u32_le-ne-APE_VERSION : goal.returns-then-read_u32_le-ne-APE_VERSION
+returns-then-read_u32_le-ne-APE_VERSION c =
+    another-version c.args.file.now c.args.footer c.args.start c.requires.2 (bit (goal.at.returns-then-read_u32_le-ne-APE_VERSION c).Else-read_u32_le-lt-APE_FLAG_HEADER_PRESENT) (mark (goal.at.returns-then-read_u32_le-ne-APE_VERSION c).Else-not-starts_with) (λ q. c.if-read_u32_le-ne-APE_VERSION.true (c.read_u32_le-2.ensures ∙ q))
 
-version : (c : Else-read_u32_le-ne2000) → version_at c.args.file.now c.args.start ≡ 2000
-version c = sym c.read_u32_le-2.ensures ∙ c.if-read_u32_le-ne2000.false
+version : (c : Else-read_u32_le-ne-APE_VERSION) → version_at c.args.file.now c.args.start ≡ 2000
+version c = sym c.read_u32_le-2.ensures ∙ c.if-read_u32_le-ne-APE_VERSION.false
 
 pub returns-then-read_u32_le : goal.returns-then-read_u32_le
 returns-then-read_u32_le c =
-    another-size c.args.file.now c.args.footer c.args.start c.requires.2 (bit (goal.at.returns-then-read_u32_le c).Else-read_u32_le-lt-APE_FLAG_HEADER_PRESENT) (mark (goal.at.returns-then-read_u32_le c).Else-not-starts_with) (version (goal.at.returns-then-read_u32_le c).Else-read_u32_le-ne2000)
+    another-size c.args.file.now c.args.footer c.args.start c.requires.2 (bit (goal.at.returns-then-read_u32_le c).Else-read_u32_le-lt-APE_FLAG_HEADER_PRESENT) (mark (goal.at.returns-then-read_u32_le c).Else-not-starts_with) (version (goal.at.returns-then-read_u32_le c).Else-read_u32_le-ne-APE_VERSION)
     (λ q. c.if-read_u32_le.true (c.read_u32_le-3.ensures ∙ q ∙ sym c.read_u32_le-4.ensures))
 
 size : (c : Else-read_u32_le) → size_at c.args.file.now c.args.start ≡ size_at c.args.file.now c.args.footer
@@ -46,11 +46,11 @@ size c = sym c.read_u32_le-3.ensures ∙ c.if-read_u32_le.false ∙ c.read_u32_l
 
 pub returns-then-read_u32_le-2 : goal.returns-then-read_u32_le-2
 returns-then-read_u32_le-2 c =
-    another-count c.args.file.now c.args.footer c.args.start c.requires.2 (bit (goal.at.returns-then-read_u32_le-2 c).Else-read_u32_le-lt-APE_FLAG_HEADER_PRESENT) (mark (goal.at.returns-then-read_u32_le-2 c).Else-not-starts_with) (version (goal.at.returns-then-read_u32_le-2 c).Else-read_u32_le-ne2000) (size (goal.at.returns-then-read_u32_le-2 c).Else-read_u32_le)
+    another-count c.args.file.now c.args.footer c.args.start c.requires.2 (bit (goal.at.returns-then-read_u32_le-2 c).Else-read_u32_le-lt-APE_FLAG_HEADER_PRESENT) (mark (goal.at.returns-then-read_u32_le-2 c).Else-not-starts_with) (version (goal.at.returns-then-read_u32_le-2 c).Else-read_u32_le-ne-APE_VERSION) (size (goal.at.returns-then-read_u32_le-2 c).Else-read_u32_le)
     (λ q. c.if-read_u32_le-2.true (c.read_u32_le-5.ensures ∙ q ∙ sym c.read_u32_le-6.ensures))
 
 pub returns : goal.returns
 returns c =
     rw c.read_u32_le-7.ensures
-    (header-bit c.args.file.now c.args.footer c.args.start c.requires.2 (bit (goal.at.returns c).Else-read_u32_le-lt-APE_FLAG_HEADER_PRESENT) (mark (goal.at.returns c).Else-not-starts_with) (version (goal.at.returns c).Else-read_u32_le-ne2000) (size (goal.at.returns c).Else-read_u32_le)
+    (header-bit c.args.file.now c.args.footer c.args.start c.requires.2 (bit (goal.at.returns c).Else-read_u32_le-lt-APE_FLAG_HEADER_PRESENT) (mark (goal.at.returns c).Else-not-starts_with) (version (goal.at.returns c).Else-read_u32_le-ne-APE_VERSION) (size (goal.at.returns c).Else-read_u32_le)
     (sym c.read_u32_le-5.ensures ∙ c.if-read_u32_le-2.false ∙ c.read_u32_le-6.ensures))

@@ -1,11 +1,6 @@
 -- The invariant: the walk finds from i what it finds from the start. No frame begins where no header may.
-use Prim.Native.Nat.{◌-◌, ◌≤◌}
-use native.Mathlib.Omega.{arith}
-use mathlib.Core.Path.{◌≡◌, sym, ◌∙◌}
-use borrow.Author.Rules.{rules}
-use lib.ListN.{length}
+use Rattle.std.proofs.Common.{◌≡◌, ◌≤◌, ◌-◌, length}
 use Rattle.layer3.specs.Walk.{walk}
-use Rattle.layer3.proofs.Walk.{walk-past}
 use Rattle.layer3.proofs.next_sync.Given as goal
 
 abbrev pub invariant-loop-i : goal.invariant-loop-i

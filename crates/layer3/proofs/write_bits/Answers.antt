@@ -1,16 +1,14 @@
--- The two bytes as one number.
-use Prim.Native.Nat.{◌/◌, ◌%◌}
-use native.Mathlib.Omega.{arith}
-use mathlib.Core.Path.{◌≡◌, ap}
-use Rattle.layer3.specs.Bits.{put_word, write_bits}
-use borrow.Author.Rules.{rules}
+use Rattle.std.proofs.Common.{arith}
+use Rattle.layer3.specs.Bits.{with_bits, write_bits}
+use Rattle.layer3.proofs.Bits.{weight_is, bits_small}
 use Rattle.layer3.proofs.write_bits.Goals as goal
 
+pub overflow_cast-s : goal.overflow_cast-s
+unfolding with_bits
+overflow_cast-s c =
+    let w = c.word_at-w.ensures in
+    rw (w.0, c.weight-k.ensures.0, c.from.ensures) (omega (arith, bits_small (weight_is c.args.bit) _ c.args.v (rw w.0 at w.1) (omega arith)))
+
 pub returns : goal.returns
-unfolding write_bits
-returns c =
-    let g = c.args in
-    let w = c.with_bits-w.result in
-    let small : w / 256 % 256 ≡ w / 256 = omega (arith, c.with_bits-w.ensures.1) in
-    let e = rw (c.word.ensures.0, c.word-2.ensures.0) at c.with_bits-w.ensures.0 in
-    rw small (ap (put_word g.s.now (g.bit / 8)) e)
+unfolding write_bits with_bits
+returns c = rw (c.word_at-w.ensures.0, c.weight-k.ensures.0, c.from.ensures)

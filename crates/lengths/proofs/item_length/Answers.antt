@@ -5,7 +5,7 @@ use Rattle.lengths.proofs.item_length.Goals as goal
 
 pub measure_set-m-requires : goal.measure_set-m-requires
 measure_set-m-requires c =
-    (c.requires.0.good, c.locate-p.ensures, omega (arith, key-length c.args.key.now c.requires.2), omega (arith, c.requires.3))
+    (c.in_ok-p.ensures, omega (arith, key-length c.args.key.now c.requires.2), omega (arith, c.requires.3))
 
 pub returns : goal.returns
 returns c =

@@ -1,9 +1,10 @@
+use Rattle.std.specs.Prelude.{Err}
 use mathlib.Core.Path.{◌≡◌, sym, ◌∙◌}
 use mathlib.Core.Bool.{true}
 use mathlib.Core.List.{[]}
 use borrow.Author.Rules.{rules}
 use borrow.Author.Tests.{not-true, not-false}
-use Rattle.keys.specs.Keys.{is_key}
+use Rattle.keys.specs.Keys.{same_key, is_key}
 use Rattle.items.specs.Items.{remove_item}
 use Rattle.calls.specs.Gate.{items_of}
 use Rattle.gate.specs.Gate.{Passed}
@@ -12,7 +13,7 @@ use Rattle.edit.proofs.Plans.{remove-1, remove-3, remove-8, remove-rest}
 use Rattle.calls.specs.Lengths.{unlimited, remove_length}
 use Rattle.lengths.proofs.Measuring.{tag_is}
 use Rattle.lengths.proofs.remove_length.Goals as goal
-use Rattle.lengths.proofs.remove_length.Goals.{Else-not-is_key, In-Items}
+use Rattle.lengths.proofs.remove_length.Goals.{Else-not-is_key, In_ok-place}
 
 pub returns-then-file-gt-FILE_LIMIT : goal.returns-then-file-gt-FILE_LIMIT
 unfolding remove_length
@@ -28,22 +29,27 @@ returns-then-not-is_key c =
 key : (c : Else-not-is_key) → is_key c.args.key.now ≡ true
 key c = sym c.is_key.ensures ∙ c.if-not-is_key.false
 
-pub returns-in_default : goal.returns-in_default
+pub returns-in_err-place : goal.returns-in_err-place
 unfolding remove_length
-returns-in_default c =
+returns-in_err-place c =
     let g = c.args in
-    rw (remove-8 g.file.now g.key.now [] unlimited c.if-file-gt-FILE_LIMIT.false (key (goal.at.returns-in_default c).Else-not-is_key) (gate-unfit g.file.now c.gate-g.result c.gate-g.ensures c.in_default.is))
+    let u = gate-unfit g.file.now c.gate.ensures c.in_err-place.was in
+    let r : c.from_residual.result ≡ Err c.in_err-place.field-0.0 = search rules in
+    rw (remove-8 g.file.now g.key.now [] unlimited c.if-file-gt-FILE_LIMIT.false (key (goal.at.returns-in_err-place c).Else-not-is_key) u.0, r, u.1)
 
 -- and the file is fit for editing
-passed : (c : In-Items) → Passed c.args.file.now c.in-Items.start c.in-Items.end c.in-Items.count
-passed c = gate-passed c.args.file.now c.gate-g.result c.in-Items.start c.in-Items.end c.in-Items.count c.gate-g.ensures c.in-Items.is
+passed : (c : In_ok-place) → Passed c.args.file.now c.in_ok-place.place
+passed c = gate-passed c.args.file.now c.gate.ensures c.in_ok-place.was
+
+pub drop_length-requires-clause-tests : goal.drop_length-requires-clause-tests
+drop_length-requires-clause-tests c = (same_key c.args.key.now, λ k b s e. search rules)
+
+pub drop_length-requires-clause-fit : goal.drop_length-requires-clause-fit
+drop_length-requires-clause-fit c = (passed (goal.at.drop_length-requires-clause-fit c).In_ok-place, c.if-file-gt-FILE_LIMIT.false)
 
 pub returns : goal.returns
 unfolding remove_length
 returns c =
     let g = c.args in
-    rw (remove-rest g.file.now g.key.now [] unlimited c.if-file-gt-FILE_LIMIT.false (key (goal.at.returns c).Else-not-is_key) (passed (goal.at.returns c).In-Items).passes, ← tag_is g.file.now (remove_item g.key.now (items_of g.file.now)))
-    c.drop_length.ensures
-
-pub drop_length-requires : goal.drop_length-requires
-drop_length-requires c = (passed c, c.if-file-gt-FILE_LIMIT.false)
+    rw (remove-rest g.file.now g.key.now [] unlimited c.if-file-gt-FILE_LIMIT.false (key (goal.at.returns c).Else-not-is_key) (passed (goal.at.returns c).In_ok-place).passes, ← tag_is g.file.now (remove_item g.key.now (items_of g.file.now)))
+    (c.drop_length.ensures (same_key g.key.now) (λ k b s e. search rules))

@@ -1,44 +1,36 @@
 -- What the check says, and then the length of the file without the eight keys.
-use mathlib.Core.Path.{◌≡◌, ap, ◌∙◌}
+use mathlib.Core.Path.{◌≡◌, sym, ap, ◌∙◌}
+use Rattle.std.specs.Prelude.{Err}
 use borrow.Author.Rules.{rules}
-use Rattle.calls.specs.Calls.{is_there}
+use lib.ListN.{length}
+use lib.Dec.{ltb}
+use Rattle.keys.specs.Keys.{is_mp3gain_key}
 use Rattle.calls.specs.Lengths.{unlimited, undo_length}
-use Rattle.gate.specs.Gate.{area_place}
-use Rattle.checks.specs.Checks.{undo_check, undo_check_answer}
+use Rattle.checks.specs.Checks.{undo_check}
 use Rattle.checks.proofs.Whole.{any-is, Undoes, undo-ready, undo-not, undo-refused}
 use Rattle.lengths.proofs.Measuring.{undo-is}
 use Rattle.lengths.proofs.undo_length.Goals as goal
-use Rattle.lengths.proofs.undo_length.Goals.{After-check_undo-c, In-Ready}
+use Rattle.lengths.proofs.undo_length.Goals.{In_ok-ready}
 
--- the answer of the check, on the left gains
-checked : (c : After-check_undo-c) → let g = c.args in
-    c.check_undo-c.result ≡ undo_check_answer (area_place g.file.now) (undo_check g.file.now (is_there g.left.now))
-checked c =
-    let g = c.args in
-    c.check_undo-c.ensures ∙ ap (λ b. undo_check_answer (area_place g.file.now) (undo_check g.file.now b)) (any-is g.left.now)
+-- the check is ready
+ready : (c : In_ok-ready) → Undoes c.args.file.now (ltb 0 (length c.args.left.now)) c.in_ok-ready.ready
+ready c = undo-ready c.args.file.now (ltb 0 (length c.args.left.now)) c.in_ok-ready.ensures
 
--- it is ready
-ready : (c : In-Ready) → let g = c.args in
-    Undoes g.file.now (is_there g.left.now) c.in-Ready.start c.in-Ready.end c.in-Ready.count c.in-Ready.left c.in-Ready.right c.in-Ready.wrap
-ready c =
-    let g = c.args in
-    undo-ready g.file.now (is_there g.left.now) ((let it : let g = c.args in
-    c.check_undo-c.result ≡ undo_check_answer (area_place g.file.now) (undo_check g.file.now (is_there g.left.now)) = let g = c.args in
-    c.check_undo-c.ensures ∙ ap (λ b. undo_check_answer (area_place g.file.now) (undo_check g.file.now b)) (any-is g.left.now) in it)) c.in-Ready.is
-
-pub returns-in-Ready : goal.returns-in-Ready
-returns-in-Ready c =
-    let g = c.args in
-    let r = ready (goal.at.returns-in-Ready c).In-Ready in
-    rw (undo-is g.file.now g.left.now g.right.now r.passed r.check) c.drop_length.ensures
-
-pub returns-in-Refused : goal.returns-in-Refused
+pub returns-in_err-ready : goal.returns-in_err-ready
 unfolding undo_length
-returns-in-Refused c =
+returns-in_err-ready c =
     let g = c.args in
-    rw (undo-refused g.file.now g.left.now g.right.now unlimited (undo-not g.file.now (is_there g.left.now) (checked (goal.at.returns-in-Refused c).After-check_undo-c) c.in-Refused.is))
+    let r : c.from_residual.result ≡ Err c.in_err-ready.field-0.0 = search rules in
+    rw (undo-refused g.file.now g.left.now g.right.now unlimited (ap (undo_check g.file.now) (sym (any-is g.left.now)) ∙ undo-not g.file.now (ltb 0 (length g.left.now)) c.in_err-ready.ensures), r)
 
-pub drop_length-requires : goal.drop_length-requires
-drop_length-requires c =
-    let r = ready (goal.at.drop_length-requires c).In-Ready in
-    (r.passed, r.short)
+pub drop_length-requires-clause-tests : goal.drop_length-requires-clause-tests
+drop_length-requires-clause-tests c = (is_mp3gain_key, λ k b s e. search rules)
+
+pub drop_length-requires-clause-fit : goal.drop_length-requires-clause-fit
+drop_length-requires-clause-fit c = let r = ready (goal.at.drop_length-requires-clause-fit c).In_ok-ready in (r.passed, r.short)
+
+pub returns : goal.returns
+returns c =
+    let g = c.args in
+    let t = ready (goal.at.returns c).In_ok-ready in
+    rw (undo-is g.file.now g.left.now g.right.now t.passed (ap (undo_check g.file.now) (sym (any-is g.left.now)) ∙ t.check)) (c.drop_length.ensures is_mp3gain_key (λ k b s e. search rules))

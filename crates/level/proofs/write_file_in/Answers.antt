@@ -1,6 +1,6 @@
 -- The items are made in the lent arrays, and read back from the last of them.
 use mathlib.Core.Path.{◌≡◌, ap, ◌∙◌}
-use mathlib.Core.Option.{some}
+use Rattle.std.specs.Prelude.{Some}
 use mathlib.Core.List.{List}
 use Prim.Native.Nat.{ℕ, ◌+◌, ◌-◌, ◌*◌, ◌≤◌}
 use native.Mathlib.Omega.{arith}
@@ -15,26 +15,27 @@ use Rattle.calls.specs.Calls.{Level, peaks_kept}
 use Rattle.level_items.specs.Items.{ranged_items}
 use Rattle.level_items.proofs.Moved.{ranged-sane, ranged-short}
 use Rattle.gate.proofs.Gates.{passed-sane}
+use Rattle.gains.specs.Moves.{level_by}
 use Rattle.level.proofs.write_file_in.Goals as goal
 use Rattle.level.proofs.write_file_in.Goals.{After-write_items-m, Start}
 
 -- what level is asked, the items as the code finds them, and the new ones
 abbrev asked : (b : Start) → Level
-asked b = record { left = b.args.left_steps.0; right = b.args.right_steps.0; mode = b.args.mode }
+asked b = level_by b.args.moves
 
 abbrev area : (b : Start) → List ℕ
-area b = part b.args.start b.args.end b.args.file.now
+area b = part b.args.place.start b.args.place.end b.args.file.now
 
 abbrev new : (b : Start) → List Item
-new b = ranged_items (asked b) b.args.undo b.args.range (items_in b.args.count (area b))
+new b = ranged_items (asked b) b.args.undo b.args.range (items_in b.args.place.count (area b))
 
-size : (b : Start) → length (area b) ≡ b.args.end - b.args.start
-size b = length_part b.args.start b.args.end b.args.file.now b.requires.0.within
+size : (b : Start) → length (area b) ≡ b.args.place.end - b.args.place.start
+size b = length_part b.args.place.start b.args.place.end b.args.file.now b.requires.0.within
 
-long : (b : Start) → length (area_bytes (new b)) ≤ b.args.end - b.args.start + 32 * b.args.count + 76
+long : (b : Start) → length (area_bytes (new b)) ≤ b.args.place.end - b.args.place.start + 32 * b.args.place.count + 76
 long b =
-    let ts = items_in b.args.count (area b) in
-    omega (arith, ranged-short (asked b) b.args.undo b.args.range ts, count-items b.args.count (area b) b.requires.0.good, area-length b.args.count (area b) b.requires.0.good, size b)
+    let ts = items_in b.args.place.count (area b) in
+    omega (arith, ranged-short (asked b) b.args.undo b.args.range ts, count-items b.args.place.count (area b) b.requires.0.good, area-length b.args.place.count (area b) b.requires.0.good, size b)
 
 pub write_items-m-requires : goal.write_items-m-requires
 write_items-m-requires c =
@@ -49,29 +50,29 @@ slice_bounds-filed-end c =
 abbrev array : (c : After-write_items-m) → List ℕ
 array c = c.write_items-m.new.out
 
-stands : (c : After-write_items-m) → parse c.write_items-m.result.count (take (c.write_items-m.result.length - 0) (array c)) ≡ some ((ranged_items ((record { left = c.args.left_steps.0; right = c.args.right_steps.0; mode = c.args.mode })) c.args.undo c.args.range (items_in c.args.count ((part c.args.start c.args.end c.args.file.now)))))
+stands : (c : After-write_items-m) → parse c.write_items-m.result.count (take c.write_items-m.result.length (array c)) ≡ Some ((ranged_items (level_by c.args.moves) c.args.undo c.args.range (items_in c.args.place.count ((part c.args.place.start c.args.place.end c.args.file.now)))))
 stands c =
     let w = c.write_items-m.ensures.0 in
-    read_back ((ranged_items ((record { left = c.args.left_steps.0; right = c.args.right_steps.0; mode = c.args.mode })) c.args.undo c.args.range (items_in c.args.count ((part c.args.start c.args.end c.args.file.now))))) (array c) _ c.write_items-m.result.length c.write_items-m.result.count w.2 w.1 w.0
-    (ranged-sane ((record { left = c.args.left_steps.0; right = c.args.right_steps.0; mode = c.args.mode })) c.args.undo c.args.range (items_in c.args.count ((part c.args.start c.args.end c.args.file.now))) (passed-sane c.requires.0))
+    read_back ((ranged_items (level_by c.args.moves) c.args.undo c.args.range (items_in c.args.place.count ((part c.args.place.start c.args.place.end c.args.file.now))))) (array c) _ c.write_items-m.result.length c.write_items-m.result.count w.2 w.1 w.0
+    (ranged-sane (level_by c.args.moves) c.args.undo c.args.range (items_in c.args.place.count ((part c.args.place.start c.args.place.end c.args.file.now))) (passed-sane c.requires.0))
     (omega (
       arith,
-      (let it : length (area_bytes ((ranged_items ((record { left = c.args.left_steps.0; right = c.args.right_steps.0; mode = c.args.mode })) c.args.undo c.args.range (items_in c.args.count ((part c.args.start c.args.end c.args.file.now)))))) ≤ c.args.end - c.args.start + 32 * c.args.count + 76 = let ts = items_in c.args.count ((part c.args.start c.args.end c.args.file.now)) in
-          omega (arith, ranged-short ((record { left = c.args.left_steps.0; right = c.args.right_steps.0; mode = c.args.mode })) c.args.undo c.args.range ts, count-items c.args.count ((part c.args.start c.args.end c.args.file.now)) c.requires.0.good, area-length c.args.count ((part c.args.start c.args.end c.args.file.now)) c.requires.0.good, (let it : length ((part c.args.start c.args.end c.args.file.now)) ≡ c.args.end - c.args.start = length_part c.args.start c.args.end c.args.file.now c.requires.0.within in it)) in it),
+      (let it : length (area_bytes ((ranged_items (level_by c.args.moves) c.args.undo c.args.range (items_in c.args.place.count ((part c.args.place.start c.args.place.end c.args.file.now)))))) ≤ c.args.place.end - c.args.place.start + 32 * c.args.place.count + 76 = let ts = items_in c.args.place.count ((part c.args.place.start c.args.place.end c.args.file.now)) in
+          omega (arith, ranged-short (level_by c.args.moves) c.args.undo c.args.range ts, count-items c.args.place.count ((part c.args.place.start c.args.place.end c.args.file.now)) c.requires.0.good, area-length c.args.place.count ((part c.args.place.start c.args.place.end c.args.file.now)) c.requires.0.good, (let it : length ((part c.args.place.start c.args.place.end c.args.file.now)) ≡ c.args.place.end - c.args.place.start = length_part c.args.place.start c.args.place.end c.args.file.now c.requires.0.within in it)) in it),
       c.requires.0.short,
       c.requires.0.few,
     ))
 
 pub filed-requires : goal.filed-requires
 filed-requires c =
-    (c.requires.1, (back-good c.write_items-m.result.count (take (c.write_items-m.result.length - 0) (array (goal.at.filed-requires c).After-write_items-m)) (stands (goal.at.filed-requires c).After-write_items-m)).0)
+    (c.requires.1, (back-good c.write_items-m.result.count (take c.write_items-m.result.length (array (goal.at.filed-requires c).After-write_items-m)) (stands (goal.at.filed-requires c).After-write_items-m)).0)
 
 pub returns : goal.returns
 returns c =
-    let i : items_in c.write_items-m.result.count (take (c.write_items-m.result.length - 0) (array (goal.at.returns c).After-write_items-m)) ≡ ranged_items (asked (goal.at.returns c).Start) c.args.undo c.args.range (items_of c.args.file.now) =
-    (back-good c.write_items-m.result.count (take (c.write_items-m.result.length - 0) (array (goal.at.returns c).After-write_items-m)) (stands (goal.at.returns c).After-write_items-m)).1 ∙ ap (ranged_items (asked (goal.at.returns c).Start) c.args.undo c.args.range) c.requires.0.items in
-    let k : c.count_kept-peaks.result ≡ peaks_kept c.args.left_steps.0 c.args.right_steps.0 (items_of c.args.file.now) =
-    c.count_kept-peaks.ensures ∙ ap (peaks_kept c.args.left_steps.0 c.args.right_steps.0) c.requires.0.items in
+    let i : items_in c.write_items-m.result.count (take c.write_items-m.result.length (array (goal.at.returns c).After-write_items-m)) ≡ ranged_items (asked (goal.at.returns c).Start) c.args.undo c.args.range (items_of c.args.file.now) =
+    (back-good c.write_items-m.result.count (take c.write_items-m.result.length (array (goal.at.returns c).After-write_items-m)) (stands (goal.at.returns c).After-write_items-m)).1 ∙ ap (ranged_items (asked (goal.at.returns c).Start) c.args.undo c.args.range) c.requires.0.items in
+    let k : c.count_kept-peaks.result ≡ peaks_kept c.args.moves.left.0 c.args.moves.right.0 (items_of c.args.file.now) =
+    c.count_kept-peaks.ensures ∙ ap (peaks_kept c.args.moves.left.0 c.args.moves.right.0) c.requires.0.items in
     rw (← i, ← k) c.filed.ensures
 
 pub count_kept-peaks-requires : goal.count_kept-peaks-requires

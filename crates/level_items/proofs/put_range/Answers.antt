@@ -1,7 +1,5 @@
-use borrow.Author.Rules.{rules}
 use native.Mathlib.Omega.{arith}
 use Rattle.keys.specs.Keys.{minmax_key}
-use Rattle.decimal.proofs.Texts.{text-within}
 use Rattle.values.specs.Range.{format_range}
 use Rattle.values.proofs.ReadBack.{length-range}
 use Rattle.items.specs.Items.{items_in}
@@ -12,11 +10,11 @@ pub put_set-requires : goal.put_set-requires
 unfolding minmax_key
 put_set-requires c =
     let t = c.format_minmax-text in
-    let f = text-fits t.result (format_range c.args.range) t.ensures minmax_key (items_in c.args.count c.args.area.now) c.args.out.now (omega (arith, length-range c.args.range)) c.requires.1 in
+    let f = text-fits t.result (format_range c.args.range) t.ensures c.as_slice.result.now c.as_slice.ensures minmax_key (items_in c.args.count c.args.area.now) c.args.out.now (omega (arith, length-range c.args.range)) c.requires.1 in
     (c.requires.0, f.0, f.1)
 
 pub returns : goal.returns
 unfolding minmax_key
 returns c =
     let t = c.format_minmax-text in
-    text-wrote t.result (format_range c.args.range) t.ensures minmax_key (items_in c.args.count c.args.area.now) c.args.out.now _ _ c.put_set.ensures
+    text-wrote t.result (format_range c.args.range) t.ensures c.as_slice.result.now c.as_slice.ensures minmax_key (items_in c.args.count c.args.area.now) c.args.out.now _ _ c.put_set.ensures

@@ -1,23 +1,18 @@
 use mathlib.Core.Path.{◌≡◌, refl, sym, ◌∙◌}
-use mathlib.Core.Option.{some}
+use Rattle.std.specs.Prelude.{Err}
 use borrow.Author.Rules.{rules}
-use Rattle.slip.specs.Slip.{slip_form}
-use Rattle.slip.proofs.Answers.{good-is, malformed-is}
 use Rattle.calls.specs.Calls.{slip_plan}
+use Rattle.level_slip.proofs.Resolving.{unread, read}
 use Rattle.level_slip.proofs.level_by_slip.Goals as goal
-use Rattle.level_slip.proofs.level_by_slip.Goals.{In-Good}
 
-pub returns-in_default : goal.returns-in_default
+pub returns-in_err-wish : goal.returns-in_err-wish
 unfolding slip_plan
-returns-in_default c =
-    let s = c.args.slip.now in
-    rw (malformed-is (slip_form s) (sym c.in_default.is ∙ c.slip_form.ensures)) (refl, refl, refl, refl)
-
--- the form was read
-good : (c : In-Good) → slip_form c.args.slip.now ≡ some c.in-Good.wish
-good c = good-is (slip_form c.args.slip.now) c.in-Good.wish (sym c.in-Good.is ∙ c.slip_form.ensures)
+returns-in_err-wish c =
+    let u = unread c.slip_form.result c.in_err-wish.ensures.value in
+    let r : c.from_residual.result ≡ Err c.in_err-wish.field-0.0 = search rules in
+    rw (sym c.slip_form.ensures ∙ u.0, r, u.1) (refl, refl, refl, refl)
 
 pub returns : goal.returns
 unfolding slip_plan
 returns c =
-    rw (good (goal.at.returns c).In-Good, ← c.resolve_mode-mode.ensures) c.level.ensures
+    rw (sym c.slip_form.ensures ∙ read c.slip_form.result c.in_ok-wish.ensures.value, ← c.resolve_mode-mode.ensures) c.level.ensures

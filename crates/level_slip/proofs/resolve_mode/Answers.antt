@@ -2,9 +2,9 @@ use borrow.Author.Rules.{rules}
 use Rattle.calls.specs.Calls.{resolved}
 use Rattle.level_slip.proofs.resolve_mode.Goals as goal
 
-pub returns-in_default : goal.returns-in_default
-returns-in_default c = rw c.in_default.is c.file_mode.ensures
+pub returns-in-None : goal.returns-in-None
+returns-in-None c = rw c.in-None.is c.file_mode.ensures
 
-pub returns : goal.returns
+pub returns-in-Some : goal.returns-in-Some
 unfolding resolved
-returns c = rw c.in-Named.is
+returns-in-Some c = rw c.in-Some.is

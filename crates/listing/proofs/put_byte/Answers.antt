@@ -1,4 +1,3 @@
-use borrow.Author.Rules.{rules}
 use Rattle.listing.proofs.put_byte.Goals as goal
 
 pub returns-then-is_plain : goal.returns-then-is_plain

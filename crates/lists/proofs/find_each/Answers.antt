@@ -1,8 +1,5 @@
-use mathlib.Core.Path.{refl}
-use Prim.Native.Nat.{◌-◌}
 use native.Mathlib.Omega.{arith}
-use lib.ListN.{length}
-use Rattle.lists.proofs.Places.{CameTo, place_here, place-next, place_end}
+use Rattle.lists.proofs.Places.{place_here, place-next, place_end}
 use Rattle.lists.proofs.find_each.Goals as goal
 
 pub returns-then-s-i : goal.returns-then-s-i
@@ -18,4 +15,4 @@ loop-i-preserved c =
 pub returns : goal.returns
 returns c =
     let g = c.args in
-    omega (arith, c.loop-i.invariant, place_end g.byte g.s.now c.loop-i.i (omega arith))
+    grind (arith, c.loop-i.invariant, place_end g.byte g.s.now c.loop-i.i (omega arith), place_end g.byte g.s.now g.at)

@@ -1,5 +1,4 @@
 use native.Mathlib.Omega.{arith}
-use borrow.Author.Rules.{rules}
 use Rattle.lists.proofs.Places.{length_part}
 use Rattle.lists.proofs.put_part.Goals as goal
 

@@ -1,5 +1,4 @@
 -- `lossy::lossy_into` meets its contract: it writes only where there is room, by the laws on sizes, or by asking.
-use borrow.Author.Rules.{rules}
 use Prim.Native.Nat.{◌≤◌, ◌<◌}
 use mathlib.Core.Path.{sym, ◌∙◌}
 use native.Mathlib.Omega.{arith}
@@ -10,7 +9,7 @@ use Rattle.lossy.proofs.Laws.{lossy-valid}
 use Rattle.lossy.proofs.Sizes.{length-lossy, least-lossy}
 use Rattle.lossy.proofs.Written.{converted, refused, had-room, had-none}
 use Rattle.lossy.proofs.lossy_into.Goals as goal
-use Rattle.lossy.proofs.lossy_into.Goals.{In-Done, Then-s-out}
+use Rattle.lossy.proofs.lossy_into.Goals.{In_ok-lossy_within, Then-s-out}
 
 pub returns-then-out-s : goal.returns-then-out-s
 returns-then-out-s c =
@@ -38,23 +37,23 @@ returns-then-is_utf8_by c =
     let g = c.args in
     rw (lossy-valid g.s.now (sym c.is_utf8_by.ensures ∙ c.if-is_utf8_by.true)) (converted g.out.now g.s.now c.if-out-s.false c.put.ensures)
 
-pub lossy_within-x-requires : goal.lossy_within-x-requires
-lossy_within-x-requires c = class-table
+pub lossy_within-requires : goal.lossy_within-requires
+lossy_within-requires c = class-table
 
-pub returns-in_default : goal.returns-in_default
-returns-in_default c =
+pub returns-in_err-lossy_within : goal.returns-in_err-lossy_within
+returns-in_err-lossy_within c =
     let g = c.args in
-    refused g.out.now (lossy g.s.now) (had-none (lossy g.s.now) (length g.out.now) c.lossy_within-x.ensures c.in_default.is)
+    rw c.from_residual.ensures (refused g.out.now (lossy g.s.now) (had-none (lossy g.s.now) (length g.out.now) c.lossy_within.ensures c.in_err-lossy_within.was))
 
-asked : (c : In-Done) → length (lossy c.args.s.now) ≤ length c.args.out.now
+asked : (c : In_ok-lossy_within) → length (lossy c.args.s.now) ≤ length c.args.out.now
 asked c =
     let g = c.args in
-    had-room (lossy g.s.now) (length g.out.now) c.lossy_within-x.ensures c.in-Done.is
+    had-room (lossy g.s.now) (length g.out.now) c.lossy_within.ensures c.in_ok-lossy_within.was
 
 pub lossy_put-requires-2 : goal.lossy_put-requires-2
-lossy_put-requires-2 c = (class-table, omega (arith, asked (goal.at.lossy_put-requires-2 c).In-Done))
+lossy_put-requires-2 c = (class-table, omega (arith, asked (goal.at.lossy_put-requires-2 c).In_ok-lossy_within))
 
 pub returns : goal.returns
 returns c =
     let g = c.args in
-    converted g.out.now (lossy g.s.now) (asked (goal.at.returns c).In-Done) c.lossy_put-2.ensures
+    converted g.out.now (lossy g.s.now) (asked (goal.at.returns c).In_ok-lossy_within) c.lossy_put-2.ensures

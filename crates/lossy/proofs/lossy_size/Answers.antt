@@ -1,5 +1,4 @@
 -- `lossy::lossy_size` meets its contract: the table that it lends has the rule.
-use borrow.Author.Rules.{rules}
 use Rattle.utf8.proofs.Rule.{class-table}
 use Rattle.lossy.proofs.lossy_size.Goals as goal
 

@@ -1,9 +1,10 @@
+use Rattle.std.specs.Prelude.{Some}
 use borrow.Author.Tests.{lt-ltb, le-ltb}
 use Prim.Native.Nat.{◌≤◌, ◌<◌, ◌+◌, ◌-◌}
 use mathlib.Core.Path.{◌≡◌, ap}
 use native.Mathlib.Omega.{arith}
-use lib.ListN.{length, drop}
-use Rattle.lossy.specs.declared.Converted.TheVariants.{Done}
+use lib.ListN.{length}
+use Rattle.std.specs.Prelude.{Some}
 use Rattle.lossy.specs.Lossy.{lossy}
 use Rattle.lossy.proofs.Runs.{size-stretch, size-unmarked, size-marked}
 use Rattle.lossy.proofs.lossy_within.Goals as goal
@@ -20,7 +21,7 @@ returns-then-r-eq0 c =
     let g = c.args in
     let all : l.size + (c.run_from-r.result.end - l.at) ≡ length (lossy g.s.now) = omega (arith, size-unmarked c.run_from-r.ensures c.if-r-eq0.true) in
     let h : length (lossy g.s.now) ≤ g.room = omega arith in
-    rw (le-ltb _ _ h) (ap Done all)
+    rw (le-ltb _ _ h) (ap Some all)
 
 pub returns-then-room-size-lt3 : goal.returns-then-room-size-lt3
 returns-then-room-size-lt3 c =

@@ -1,50 +1,39 @@
-use mathlib.Core.Path.{sym, ap, ◌∙◌}
-use mathlib.Core.Bool.{true, false}
-use Prim.Native.Nat.{◌≤◌}
+use mathlib.Core.Path.{◌≡◌, sym, ap, ◌∙◌}
+use mathlib.Core.List.{List}
+use Prim.Native.Nat.{ℕ, ◌≤◌}
+use lib.IntN.{ℤ}
 use native.Mathlib.Omega.{arith}
-use mir.Syntax.{w32}
-use mir.Val.{SFits}
-use mir.Facts.{to_z-of_z}
-use borrow.Author.Rules.{rules}
+use mir.Syntax.{w64}
+use mir.Val.{to_z}
+use lib.Dec.{leb}
+use Rattle.std.specs.Prelude.{Some}
+use Rattle.std.proofs.lemmas.Int.{ints}
 use Rattle.lists.proofs.Wrote.{rest}
-use Rattle.number.specs.declared.I32Field.TheVariants.{Value}
-use Rattle.number.proofs.Limits.{whole-nothing, whole-value, below-zero, within}
+use Rattle.lists.specs.Choice.{provided}
+use Rattle.number.specs.Reading.{natural, unsigned, with_sign, is_minus, is_i32}
+use Rattle.number.proofs.Limits.{i32-none, i32-value, i32-fits, within}
 use Rattle.number.proofs.parse_whole.Goals as goal
+use Rattle.number.proofs.parse_whole.Goals.{then-is_minus, else-is_minus, After-parse_natural}
 
-pub returns-in_default : goal.returns-in_default
-returns-in_default c =
+-- the size that was read
+size : (c : After-parse_natural) → c.parse_natural.result ≡ provided (λ k. leb k 2147483648) (natural (unsigned c.args.s.now))
+size c =
     let s = c.args.s.now in
-    whole-nothing true s _ (sym c.is_minus.ensures ∙ c.if-is_minus.true) (rest s c.sign_len-at.result ∙ c.sign_len-at.ensures.1) (sym c.in_default.is ∙ c.parse_natural.ensures)
+    c.parse_natural.ensures ∙ ap (λ (t : List ℕ). provided (λ k. leb k 2147483648) (natural t)) (rest s c.sign_len.result ∙ c.sign_len.ensures.1)
 
-pub returns-then-n-eq0 : goal.returns-then-n-eq0
-returns-then-n-eq0 c =
-    let s = c.args.s.now in
-    rw c.if-n-eq0.true at (whole-value true s _ (sym c.is_minus.ensures ∙ c.if-is_minus.true) (rest s c.sign_len-at.result ∙ c.sign_len-at.ensures.1) c.in-Value.n (sym c.in-Value.is ∙ c.parse_natural.ensures))
-
-pub together-requires : goal.together-requires
-together-requires c =
-    let h : c.in-Value.n ≤ 2147483648 = within 2147483648 _ _ (sym c.in-Value.is ∙ c.parse_natural.ensures) in
-    omega arith
-
-pub returns-then-is_minus : goal.returns-then-is_minus
-returns-then-is_minus c =
-    let s = c.args.s.now in
-    let h : SFits w32 c.together.result = search rules in
-    ap Value (to_z-of_z h ∙ c.together.ensures ∙ below-zero c.in-Value.n c.if-n-eq0.false)
-    ∙ whole-value true s _ (sym c.is_minus.ensures ∙ c.if-is_minus.true) (rest s c.sign_len-at.result ∙ c.sign_len-at.ensures.1) c.in-Value.n (sym c.in-Value.is ∙ c.parse_natural.ensures)
-
-pub returns-in_default-parse_natural : goal.returns-in_default-parse_natural
-returns-in_default-parse_natural c =
-    let s = c.args.s.now in
-    whole-nothing false s _ (sym c.is_minus.ensures ∙ c.if-is_minus.false) (rest s c.sign_len-at.result ∙ c.sign_len-at.ensures.1) (sym c.in_default-parse_natural.is ∙ c.parse_natural-2.ensures)
-
-pub together-requires-2 : goal.together-requires-2
-together-requires-2 c =
-    let h : c.in-Value-parse_natural.n ≤ 2147483647 = within 2147483647 _ _ (sym c.in-Value-parse_natural.is ∙ c.parse_natural-2.ensures) in
-    omega arith
+pub returns-in_err-parse_natural : goal.returns-in_err-parse_natural
+returns-in_err-parse_natural c =
+    c.from_residual.ensures ∙ sym (i32-none c.args.s.now (sym (size (goal.at.returns-in_err-parse_natural c).After-parse_natural) ∙ c.in_err-parse_natural.was))
 
 pub returns : goal.returns
 returns c =
     let s = c.args.s.now in
-    let h : SFits w32 c.together-2.result = search rules in
-    ap Value (to_z-of_z h ∙ c.together-2.ensures) ∙ whole-value false s _ (sym c.is_minus.ensures ∙ c.if-is_minus.false) (rest s c.sign_len-at.result ∙ c.sign_len-at.ensures.1) c.in-Value-parse_natural.n (sym c.in-Value-parse_natural.is ∙ c.parse_natural-2.ensures)
+    let m = c.in_ok-parse_natural.field-0 in
+    let e : provided (λ k. leb k 2147483648) (natural (unsigned s)) ≡ Some m = sym (size (goal.at.returns c).After-parse_natural) ∙ c.in_ok-parse_natural.was in
+    let b : m ≤ 2147483648 = within 2147483648 m (unsigned s) e in
+    let z : to_z w64 c.if-is_minus.try_from-bits ≡ with_sign (is_minus s) m = elim c.if-is_minus.branch [
+      | then-is_minus w ↦ rw (sym c.is_minus.ensures ∙ w.if-is_minus.true) (omega (arith, ints))
+      | else-is_minus w ↦ rw (sym c.is_minus.ensures ∙ w.if-is_minus.false) (omega (arith, ints))
+    ] in
+    c.ok.ensures.value ∙ i32-fits c.try_from.result (to_z w64 c.if-is_minus.try_from-bits) c.try_from.ensures
+    ∙ ap (λ (y : ℤ). provided is_i32 (Some y)) z ∙ sym (i32-value s m e)

@@ -1,9 +1,8 @@
 use mathlib.Core.Path.{◌≡◌, ap, ◌∙◌}
 use Prim.Native.Nat.{ℕ, ◌*◌, ◌%◌, ◌^◌, ◌≤◌}
 use native.Mathlib.Omega.{arith}
-use borrow.Author.Rules.{rules}
 use Rattle.peaks.specs.Peak.{largest}
-use Rattle.peaks.specs.Halves.{value_of, within}
+use Rattle.peaks.specs.Halves.{within}
 use Rattle.peaks.proofs.Moves.{small_power}
 use Rattle.peaks.proofs.rounded.Goals as goal
 use Rattle.peaks.proofs.rounded.Goals.{Start}
@@ -15,8 +14,7 @@ power c = let h : 2 ^ c.args.k ≤ 8 = small_power c.args.k c.requires.1 in omeg
 pub returns : goal.returns
 returns c =
     let g = c.args in
-    let e : value_of c.fourth-w.result ≡ g.v ^ 4 * (1 * 2 ^ g.k % 18446744073709551616) = c.fourth-w.ensures.0 in
-    let w : value_of c.fourth-w.result ≡ g.v ^ 4 * 2 ^ g.k = e ∙ ap (λ (m : ℕ). g.v ^ 4 * m) (power (goal.at.returns c).Start).0 in
+    let w : c.fourth-w.result ≡ g.v ^ 4 * 2 ^ g.k = c.fourth-w.ensures ∙ ap (λ (m : ℕ). g.v ^ 4 * m) (power (goal.at.returns c).Start).0 in
     (c.up_from.ensures.0 ∙ ap (λ (x : ℕ). largest (within g.q x) 27 0) w, c.up_from.ensures.1)
 
 pub fourth-w-requires : goal.fourth-w-requires

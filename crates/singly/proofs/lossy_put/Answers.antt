@@ -1,12 +1,9 @@
-use borrow.Author.Rules.{rules}
-use Prim.Native.Nat.{◌+◌, ◌-◌}
-use mathlib.Core.Path.{◌∙◌}
+use Prim.Native.Nat.{◌+◌}
 use native.Mathlib.Omega.{arith}
-use lib.ListN.{length, drop}
 use Rattle.lists.specs.Write.{part}
-use Rattle.lossy.specs.Lossy.{mark, lossy}
+use Rattle.lossy.specs.Lossy.{mark}
 use Rattle.singly.proofs.Next.{Next, character, character-size, ill-formed, nothing_left, fits_next, went_on, ended-there}
-use Rattle.lossy.proofs.Written.{State, begin}
+use Rattle.lossy.proofs.Written.{begin}
 use Rattle.singly.proofs.lossy_put.Goals as goal
 use Rattle.singly.proofs.lossy_put.Goals.{In-Bad, In-Good}
 
@@ -16,10 +13,10 @@ loop-n-init c = begin c.args.s.now c.args.out.now c.args.at c.requires.1
 -- a character, or an ill-formed part, stands at this place
 whole : (c : In-Good) → (let s = c.args.s.now in
     Next s c.loop-n.from c.in-Good.n (part c.loop-n.from (c.loop-n.from + c.in-Good.n) s))
-whole c = character c.step_by-x.ensures c.in-Good.is
+whole c = character c.step_by.ensures c.in-Good.is
 
 broken : (c : In-Bad) → (Next c.args.s.now c.loop-n.from c.in-Bad.n mark)
-broken c = ill-formed c.step_by-x.ensures c.in-Bad.is
+broken c = ill-formed c.step_by.ensures c.in-Bad.is
 
 pub put_part-o-requires : goal.put_part-o-requires
 put_part-o-requires c =
@@ -48,10 +45,10 @@ loop-n-preserved c =
 
 pub returns-in-End : goal.returns-in-End
 returns-in-End c =
-    ended-there c.loop-n.invariant (nothing_left c.args.s.now c.loop-n.from c.step_by-x.ensures c.in-End.is)
+    ended-there c.loop-n.invariant (nothing_left c.args.s.now c.loop-n.from c.step_by.ensures c.in-End.is)
 
-pub step_by-x-requires : goal.step_by-x-requires
-step_by-x-requires c = c.requires.0
+pub step_by-requires : goal.step_by-requires
+step_by-requires c = c.requires.0
 
 pub overflow_add-e : goal.overflow_add-e
 overflow_add-e c = omega (arith, (whole c).inside)

@@ -1,13 +1,7 @@
 -- The invariant is the `State` of Written.antt.
-use borrow.Author.Rules.{rules}
-use Prim.Native.Nat.{◌+◌, ◌-◌}
-use mathlib.Core.Path.{◌∙◌}
-use native.Mathlib.Omega.{arith}
-use lib.ListN.{length, drop}
-use Rattle.lists.specs.Write.{part}
-use Rattle.lossy.specs.Lossy.{mark, lossy}
-use Rattle.singly.proofs.Next.{Next, character, character-size, ill-formed, nothing_left, fits_next, went_on, ended-there}
-use Rattle.lossy.proofs.Written.{State, begin}
+use Prim.Native.Nat.{◌-◌}
+use lib.ListN.{length}
+use Rattle.lossy.proofs.Written.{State}
 use Rattle.singly.proofs.lossy_put.Given as goal
 
 abbrev pub invariant-loop-n : goal.invariant-loop-n

@@ -1,10 +1,9 @@
-use borrow.Author.Rules.{rules}
 use borrow.Author.Tests.{lt-ltb, le-ltb}
-use Prim.Native.Nat.{◌≤◌, ◌<◌, ◌+◌, ◌-◌}
+use Prim.Native.Nat.{◌≤◌, ◌<◌, ◌+◌}
 use mathlib.Core.Path.{◌≡◌, ap}
 use native.Mathlib.Omega.{arith}
 use lib.ListN.{length, drop}
-use Rattle.lossy.specs.declared.Converted.TheVariants.{Done}
+use Rattle.std.specs.Prelude.{Some}
 use Rattle.lossy.specs.Lossy.{mark, lossy}
 use Rattle.lists.specs.Write.{part}
 use Rattle.singly.proofs.Next.{Next, character, character-size, ill-formed, nothing_left}
@@ -14,10 +13,10 @@ use Rattle.singly.proofs.lossy_within.Goals.{In-Bad, In-Good}
 -- a character, or an ill-formed part, stands at this place
 whole : (c : In-Good) → (let s = c.args.s.now in
     Next s c.loop-n.at c.in-Good.n (part c.loop-n.at (c.loop-n.at + c.in-Good.n) s))
-whole c = character c.step_by-x.ensures c.in-Good.is
+whole c = character c.step_by.ensures c.in-Good.is
 
 broken : (c : In-Bad) → (Next c.args.s.now c.loop-n.at c.in-Bad.n mark)
-broken c = ill-formed c.step_by-x.ensures c.in-Bad.is
+broken c = ill-formed c.step_by.ensures c.in-Bad.is
 
 pub returns-then-room-size : goal.returns-then-room-size
 returns-then-room-size c =
@@ -43,16 +42,16 @@ pub returns-in-End : goal.returns-in-End
 returns-in-End c =
     let l = c.loop-n in
     let g = c.args in
-    let none : length (lossy (drop l.at g.s.now)) ≡ 0 = ap length (nothing_left g.s.now l.at c.step_by-x.ensures c.in-End.is) in
+    let none : length (lossy (drop l.at g.s.now)) ≡ 0 = ap length (nothing_left g.s.now l.at c.step_by.ensures c.in-End.is) in
     let all : l.size ≡ length (lossy g.s.now) = omega arith in
     let h : length (lossy g.s.now) ≤ g.room = omega arith in
-    rw (le-ltb _ _ h) (ap Done all)
+    rw (le-ltb _ _ h) (ap Some all)
 
 pub loop-n-init : goal.loop-n-init
 loop-n-init c = (omega arith, omega arith, omega arith)
 
-pub step_by-x-requires : goal.step_by-x-requires
-step_by-x-requires c = c.requires
+pub step_by-requires : goal.step_by-requires
+step_by-requires c = c.requires
 
 pub overflow_add-at : goal.overflow_add-at
 overflow_add-at c = omega (arith, (whole (goal.at.overflow_add-at c).In-Good).inside)

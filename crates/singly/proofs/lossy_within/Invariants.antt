@@ -1,14 +1,8 @@
 -- The invariant: the whole size is what was counted and the size of what is left.
-use borrow.Author.Rules.{rules}
-use borrow.Author.Tests.{lt-ltb, le-ltb}
-use Prim.Native.Nat.{◌≤◌, ◌<◌, ◌+◌, ◌-◌}
-use mathlib.Core.Path.{◌≡◌, ap}
-use native.Mathlib.Omega.{arith}
+use Prim.Native.Nat.{◌≤◌, ◌+◌, ◌-◌}
+use mathlib.Core.Path.{◌≡◌}
 use lib.ListN.{length, drop}
-use Rattle.lossy.specs.declared.Converted.TheVariants.{Done}
-use Rattle.lossy.specs.Lossy.{mark, lossy}
-use Rattle.lists.specs.Write.{part}
-use Rattle.singly.proofs.Next.{Next, character, character-size, ill-formed, nothing_left}
+use Rattle.lossy.specs.Lossy.{lossy}
 use Rattle.singly.proofs.lossy_within.Given as goal
 
 abbrev pub invariant-loop-n : goal.invariant-loop-n

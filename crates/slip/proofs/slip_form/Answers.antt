@@ -3,7 +3,7 @@ use Prim.Native.Nat.{ℕ, ◌+◌, ◌-◌, ◌≤◌}
 use mathlib.Core.List.{List}
 use native.Mathlib.Omega.{arith}
 use lib.ListN.{length, take, drop}
-use Rattle.number.proofs.Cuts.{front-is, within_text, no-back, within-back, back_is}
+use Rattle.number.proofs.Cuts.{front-is, front-size, no-back, within-back, back_is}
 use Rattle.slip.specs.Slip.{slip_form}
 use Rattle.slip.proofs.slip_form.Goals as goal
 use Rattle.slip.proofs.slip_form.Goals.{Else-a-text, Else-b-behind}
@@ -24,9 +24,7 @@ last_line c =
 
 pub returns-then-a-text : goal.returns-then-a-text
 unfolding slip_form
-returns-then-a-text c =
-    let s = c.args.text.now in
-    rw (no-back 10 s c.find_byte-a.result c.find_byte-a.ensures c.if-a-text.true)
+returns-then-a-text c = rw (no-back 10 c.args.text.now c.find_byte-a.result c.find_byte-a.ensures c.if-a-text.true)
 
 pub returns-then-b-behind : goal.returns-then-b-behind
 unfolding slip_form
@@ -34,15 +32,6 @@ returns-then-b-behind c =
     let s = c.args.text.now in
     let e = c.find_byte-a.result in
     rw (back_is 10 s e c.find_byte-a.ensures c.if-a-text.false, no-back 10 (cut_behind s e) c.find_byte-b.result c.find_byte-b.ensures c.if-b-behind.true)
-
-pub slice_bounds-lines_form-end : goal.slice_bounds-lines_form-end
-slice_bounds-lines_form-end c =
-    omega (arith, within_text 10 c.args.text.now c.find_byte-a.result c.find_byte-a.ensures)
-
-pub slice_bounds-lines_form-end-2 : goal.slice_bounds-lines_form-end-2
-slice_bounds-lines_form-end-2 c =
-    let t = cut_behind c.args.text.now c.find_byte-a.result in
-    omega (arith, within_text 10 t c.find_byte-b.result c.find_byte-b.ensures)
 
 pub returns : goal.returns
 unfolding slip_form
@@ -59,20 +48,26 @@ returns c =
     )
     c.lines_form.ensures
 
-pub overflow_add-second : goal.overflow_add-second
-overflow_add-second c = omega (arith, second-line c)
+pub overflow_add-behind : goal.overflow_add-behind
+overflow_add-behind c = omega (arith, second-line c)
 
 pub slice_bounds-behind-count : goal.slice_bounds-behind-count
-slice_bounds-behind-count c = omega (arith, second-line c)
+slice_bounds-behind-count c = second-line c
 
 pub slice_bounds-behind-start : goal.slice_bounds-behind-start
-slice_bounds-behind-start c = omega (arith, second-line c)
+slice_bounds-behind-start c = let h = second-line c in search rules
 
-pub overflow_add-last : goal.overflow_add-last
-overflow_add-last c = omega (arith, last_line c)
+pub slice_bounds-lines_form-end : goal.slice_bounds-lines_form-end
+slice_bounds-lines_form-end c = front-size 10 c.args.text.now c.find_byte-a.result c.find_byte-a.ensures
 
-pub slice_bounds-lines_form-count-3 : goal.slice_bounds-lines_form-count-3
-slice_bounds-lines_form-count-3 c = omega (arith, last_line (goal.at.slice_bounds-lines_form-count-3 c).Else-b-behind)
+pub slice_bounds-lines_form-end-2 : goal.slice_bounds-lines_form-end-2
+slice_bounds-lines_form-end-2 c = front-size 10 (cut_behind c.args.text.now c.find_byte-a.result) c.find_byte-b.result c.find_byte-b.ensures
 
-pub slice_bounds-lines_form-start-3 : goal.slice_bounds-lines_form-start-3
-slice_bounds-lines_form-start-3 c = omega (arith, last_line (goal.at.slice_bounds-lines_form-start-3 c).Else-b-behind)
+pub overflow_add-b : goal.overflow_add-b
+overflow_add-b c = omega (arith, last_line (goal.at.overflow_add-b c).Else-b-behind)
+
+pub slice_bounds-lines_form-count : goal.slice_bounds-lines_form-count
+slice_bounds-lines_form-count c = last_line (goal.at.slice_bounds-lines_form-count c).Else-b-behind
+
+pub slice_bounds-lines_form-start : goal.slice_bounds-lines_form-start
+slice_bounds-lines_form-start c = let h = last_line (goal.at.slice_bounds-lines_form-start c).Else-b-behind in search rules

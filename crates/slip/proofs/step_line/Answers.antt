@@ -1,9 +1,8 @@
-use borrow.Author.Rules.{rules}
 use Prim.Native.Nat.{◌≤◌, ◌-◌}
 use mathlib.Core.Path.{◌≡◌, sym, ◌∙◌}
 use native.Mathlib.Omega.{arith}
 use lib.ListN.{length, drop}
-use borrow.Author.Tests.{not-true, not-false, le-leb, lt-leb}
+use borrow.Author.Tests.{le-leb, lt-leb}
 use Rattle.lists.proofs.Wrote.{rest}
 use Rattle.number.specs.Reading.{unsigned}
 use Rattle.slip.specs.Slip.{step_text, step_line}
@@ -24,13 +23,13 @@ slice_bounds-text-start c =
     let g = c.args in
     omega (arith, starts-fits g.name.now g.line.now (sym c.starts_with.ensures ∙ c.if-not-starts_with.false))
 
-pub returns-then-text-sign-gt5 : goal.returns-then-text-sign-gt5
+pub returns-then-text-sign_len-gt5 : goal.returns-then-text-sign_len-gt5
 unfolding step_line step_text
-returns-then-text-sign-gt5 c =
+returns-then-text-sign_len-gt5 c =
     let g = c.args in
     let k = length g.name.now in
     let r = rest g.line.now k in
-    let u : length (unsigned (drop k g.line.now)) ≡ length g.line.now - k - c.sign_len-sign.result = digits-left g.line.now k c.sign_len-sign.result c.sign_len-sign.ensures.1 in
+    let u : length (unsigned (drop k g.line.now)) ≡ length g.line.now - k - c.sign_len.result = digits-left g.line.now k c.sign_len.result c.sign_len.ensures.1 in
     rw (← c.starts_with.ensures, c.if-not-starts_with.false, lt-leb (length (unsigned (drop k g.line.now))) 5 (omega (arith, u)))
 
 pub returns : goal.returns
@@ -40,6 +39,6 @@ returns c =
     let k = length g.name.now in
     let t = drop k g.line.now in
     let r = rest g.line.now k in
-    let u : length (unsigned t) ≡ length g.line.now - k - c.sign_len-sign.result = digits-left g.line.now k c.sign_len-sign.result c.sign_len-sign.ensures.1 in
+    let u : length (unsigned t) ≡ length g.line.now - k - c.sign_len.result = digits-left g.line.now k c.sign_len.result c.sign_len.ensures.1 in
     let h : length (unsigned t) ≤ 5 = omega (arith, u) in
     rw (← c.starts_with.ensures, c.if-not-starts_with.false, le-leb (length (unsigned t)) 5 h, ← five-fit t h, ← r) c.parse_whole.ensures

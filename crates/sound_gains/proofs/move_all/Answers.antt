@@ -1,7 +1,5 @@
-use Prim.Native.Nat.{◌-◌}
 use native.Mathlib.Omega.{arith}
 use mathlib.Core.Path.{◌≡◌, refl, sym, ap, ◌∙◌}
-use borrow.Author.Rules.{rules}
 use lib.ListN.{length}
 use Rattle.frame.specs.Gain.{adjust}
 use Rattle.layer3.specs.Fields.{moved_by}
@@ -20,8 +18,8 @@ pub returns : goal.returns
 unfolding fields_of frames_in moved_by
 returns c =
     let g = c.args in
-    let f = adjust g.mode g.left_steps.0 in
-    let h = adjust g.mode g.right_steps.0 in
+    let f = adjust g.moves.mode g.moves.left.0 in
+    let h = adjust g.moves.mode g.moves.right.0 in
     let e : moved_by f h (fields_of (walk (length g.audio.now) g.audio.now c.loop-at.at)) c.loop-at.out ≡ c.loop-at.out = rw (walk_end g.audio.now c.loop-at.at (omega arith)) in
     sym e ∙ c.loop-at.invariant.1 ∙ rw (c.walk_start-at.ensures, c.requires.1) (audio-moved f h g.audio.now)
 

@@ -1,5 +1,4 @@
 -- What is read is moved and written.
-use borrow.Author.Rules.{rules}
 use Rattle.sound_gains.proofs.move_field.Goals as goal
 
 pub returns : goal.returns

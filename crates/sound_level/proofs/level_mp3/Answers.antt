@@ -2,4 +2,4 @@
 use Rattle.sound_level.proofs.level_mp3.Goals as goal
 
 pub returns : goal.returns
-returns c = rw c.resolve_mode-resolved.ensures at c.level_sound.ensures
+returns c = rw c.resolve_mode.ensures at c.level_sound.ensures

@@ -1,5 +1,5 @@
 -- What comes back of the part stands before the rest.
-use Prim.Native.Nat.{ℕ, ◌-◌}
+use Prim.Native.Nat.{ℕ}
 use native.Mathlib.Omega.{arith}
 use mathlib.Core.Path.{◌≡◌, sym, ap, ◌∙◌}
 use mathlib.Core.List.{List, ◌++◌}
@@ -13,17 +13,15 @@ use Rattle.sound_level.proofs.move_front.Goals as goal
 pub move_gains-requires : goal.move_gains-requires
 move_gains-requires c =
     let g = c.args in
-    let z : g.front - 0 ≡ g.front = omega arith in
     let l = length-take-le g.front g.file.now c.requires.1 in
-    rw z (c.requires.3, omega (arith, l, c.requires.0, c.requires.1))
+    (c.requires.3, omega (arith, l, c.requires.0, c.requires.1))
 
 pub returns : goal.returns
 returns c =
     let g = c.args in
-    let z : g.front - 0 ≡ g.front = omega arith in
     let a = take g.front g.file.now in
-    let ls = adjusted g.mode g.left_steps.0 (left_gains a) in
-    let rs = adjusted g.mode g.right_steps.0 (right_gains a) in
+    let ls = adjusted g.moves.mode g.moves.left.0 (left_gains a) in
+    let rs = adjusted g.moves.mode g.moves.right.0 (right_gains a) in
     let l : length (with_gains a ls rs) ≡ g.front = length-audio a ls rs ∙ length-take-le g.front g.file.now c.requires.1 in
-    let e : c.move_gains.new.out ≡ with_gains a ls rs = rw z at c.move_gains.ensures in
-    rw z (ap (λ (w : List ℕ). w ++ drop g.front g.out.now) e ∙ ap (λ (n : ℕ). with_gains a ls rs ++ drop n g.out.now) (sym l))
+    let e : c.move_gains.new.out ≡ with_gains a ls rs = c.move_gains.ensures in
+    ap (λ (w : List ℕ). w ++ drop g.front g.out.now) e ∙ ap (λ (n : ℕ). with_gains a ls rs ++ drop n g.out.now) (sym l)

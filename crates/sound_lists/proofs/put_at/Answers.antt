@@ -1,9 +1,8 @@
 -- Over a frame, or past a byte.
 use native.Mathlib.Omega.{arith}
-use mathlib.Core.Path.{sym, ◌∙◌}
+use mathlib.Core.Path.{sym}
 use lib.ListN.{drop}
 use Rattle.layer3.proofs.Walk.{counts}
-use borrow.Author.Rules.{rules}
 use Rattle.sound_lists.proofs.Puts.{put-past, put-over}
 use Rattle.sound_lists.proofs.put_at.Goals as goal
 
@@ -11,21 +10,21 @@ pub returns-in_default : goal.returns-in_default
 returns-in_default c =
     let g = c.args in
     let n = c.next_sync.ensures in
-    (omega (arith, n.0), put-past g.audio.now g.x.at (drop g.x.left g.left.now) (drop g.x.right g.right.now) g.out.now (sym c.frame_at-f.ensures ∙ c.in_default.is) _ n.1)
+    (omega (arith, n.0), put-past g.audio.now g.x.at (drop g.x.left g.left.now) (drop g.x.right g.right.now) g.out.now (sym c.in_default.ensures) _ n.1)
 
 pub put_frame-y-requires : goal.put_frame-y-requires
 put_frame-y-requires c =
     let g = c.args in
-    let h = c.in-Valid.h in
-    let e = sym c.frame_at-f.ensures ∙ c.in-Valid.is in
+    let h = c.in-Some.h in
+    let e = sym c.in-Some.ensures in
     let k = counts g.audio.now g.x.at h e in
     (k.long.least, omega (arith, k.ends, c.requires.2), omega (arith, c.requires.2, c.requires.3))
 
 pub pass_frame-requires : goal.pass_frame-requires
 pass_frame-requires c =
     let g = c.args in
-    let h = c.in-Valid.h in
-    let e = sym c.frame_at-f.ensures ∙ c.in-Valid.is in
+    let h = c.in-Some.h in
+    let e = sym c.in-Some.ensures in
     let k = counts g.audio.now g.x.at h e in
     let w = c.put_frame-y.ensures in
     (omega (arith, w.0), omega (arith, w.0, k.ends), c.requires.3)
@@ -33,8 +32,8 @@ pass_frame-requires c =
 pub returns : goal.returns
 returns c =
     let g = c.args in
-    let h = c.in-Valid.h in
-    let e = sym c.frame_at-f.ensures ∙ c.in-Valid.is in
+    let h = c.in-Some.h in
+    let e = sym c.in-Some.ensures in
     let k = counts g.audio.now g.x.at h e in
     let w = c.put_frame-y.ensures in
     let n = c.pass_frame.ensures in

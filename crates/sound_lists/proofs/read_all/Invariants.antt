@@ -1,12 +1,8 @@
 -- The invariant: what is stored and what is left to store are all gains.
-use Prim.Native.Nat.{ℕ, ◌+◌, ◌-◌, ◌≤◌}
-use native.Mathlib.Omega.{arith}
-use mathlib.Core.Path.{◌≡◌, refl, sym, ap, ◌∙◌}
-use borrow.Author.Rules.{rules}
+use Prim.Native.Nat.{◌+◌, ◌-◌, ◌≤◌}
+use mathlib.Core.Path.{◌≡◌}
 use lib.ListN.{length}
-use Rattle.layer3.specs.Walk.{frames_in}
 use Rattle.sound_lists.specs.Lists.{filled, lefts_from, rights_from}
-use Rattle.sound_lists.proofs.Gets.{left_end, right_end}
 use Rattle.sound_lists.proofs.read_all.Given as goal
 
 abbrev pub invariant-loop-x : goal.invariant-loop-x

@@ -1,6 +1,5 @@
 -- The table that is lent is that of the frame lengths.
 use mathlib.Core.Path.{◌∙◌}
-use borrow.Author.Rules.{rules}
 use Rattle.layer3.proofs.Sizes.{size-table}
 use Rattle.sound_lists.proofs.Gets.{filled-over}
 use Rattle.sound_lists.proofs.read_gains.Goals as goal

@@ -1,12 +1,9 @@
 -- The invariant: the gains that are left put into what is there are all gains put into what was there.
 use Prim.Native.Nat.{◌-◌}
-use native.Mathlib.Omega.{arith}
-use mathlib.Core.Path.{◌≡◌, refl, sym, ap, ◌∙◌}
-use borrow.Author.Rules.{rules}
+use mathlib.Core.Path.{◌≡◌}
 use lib.ListN.{length, drop}
 use Rattle.layer3.specs.Fields.{write_fields}
-use Rattle.layer3.specs.Walk.{walk, frames_in, fields_of}
-use Rattle.layer3.proofs.Walk.{walk_end}
+use Rattle.layer3.specs.Walk.{walk, fields_of}
 use Rattle.sound_lists.proofs.write_all.Given as goal
 
 abbrev pub invariant-loop-x : goal.invariant-loop-x

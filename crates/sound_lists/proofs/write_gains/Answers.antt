@@ -1,5 +1,4 @@
 -- The table that is lent is that of the frame lengths.
-use borrow.Author.Rules.{rules}
 use Rattle.layer3.proofs.Sizes.{size-table}
 use Rattle.sound_lists.proofs.write_gains.Goals as goal
 

@@ -7,4 +7,4 @@ pub returns-then-new-end : goal.returns-then-new-end
 returns-then-new-end c = rw (lt-ltb _ _ c.if-new-end.true)
 
 pub returns : goal.returns
-returns c = rw (le-ltb _ _ c.if-new-end.false) (ap (Stopped c.args.end) c.greatest.ensures)
+returns c = rw (le-ltb _ _ c.if-new-end.false) (ap (Stopped c.args.end) c.max.ensures)

@@ -13,13 +13,13 @@ returns-then-budget-src c =
     let g = c.args in
     let z : g.budget - 0 ≡ g.budget = omega arith in (
       omega (arith, c.if-budget-src.true),
-      c.put.ensures.1 ∙ at_front g.out.now (take (g.budget - 0) g.src.now) ∙ ap (λ (n : ℕ). over (take n g.src.now) g.out.now) z,
+      c.put_rising.ensures.1 ∙ at_front g.out.now (take (g.budget - 0) g.src.now) ∙ ap (λ (n : ℕ). over (take n g.src.now) g.out.now) z,
     )
 
 pub returns : goal.returns
 returns c =
     let g = c.args in (
       refl,
-      c.put-2.ensures.1 ∙ at_front g.out.now g.src.now
+      c.put_rising-2.ensures.1 ∙ at_front g.out.now g.src.now
           ∙ ap (λ (w : List ℕ). over w g.out.now) (sym (take_all g.budget g.src.now c.if-budget-src.false)),
     )

@@ -1,3 +1,4 @@
+use Rattle.std.specs.Prelude.{Ok}
 use mathlib.Core.Path.{◌≡◌, refl, sym, ap, ◌∙◌}
 use mathlib.Core.Bool.{Bool, true, false, not, ◌&&◌}
 use mathlib.Core.List.{List, [], ◌++◌}
@@ -79,7 +80,7 @@ returns-then-unwritten c =
     let t : Tail = tail (length (file b)) [] in
     let plan = plan-done (file b) (items b) (length g.buf.now) t (tail_none (file b) (items b) (blank (goal.at.returns-then-unwritten c).After-unwritten _ c.if-unwritten.true)) (omega (arith, n, c.requires.0)) (omega (arith, n, c.requires.1)) in
     rw plan (
-      c.found_then.ensures ∙ found_as g.total g.budget g.total g.total t n (omega (arith, n)),
+      ap Ok c.found_then.ensures ∙ found_as g.total g.budget g.total g.total t n (omega (arith, n)),
       sym (ap (splice g.buf.now (length (file b))) (take-nil g.budget) ∙ splice-none g.buf.now (length (file b))),
     )
 
@@ -121,6 +122,6 @@ returns c =
     let plan = plan-done (file b) (items b) (length g.buf.now) t is (omega (arith, n)) (omega (arith, n)) in
     let same : part place.from place.to g.buf.now ≡ part place.from place.to (file b) = sym (part-take place.from place.to g.total g.buf.now (omega (arith, p.within, file-length b))) in
     rw plan (
-      c.found_then-2.ensures ∙ found_as g.total g.budget place.end c.new_length-new.result t refl n,
+      ap Ok c.found_then-2.ensures ∙ found_as g.total g.budget place.end c.new_length-new.result t refl n,
       c.put_tail.ensures ∙ ap (λ (r : List ℕ). splice g.buf.now place.end (take g.budget (serialize (items b) ++ r))) same,
     )

@@ -1,20 +1,14 @@
-use borrow.Author.Tests.{not-false}
-use Prim.Native.Nat.{◌-◌}
+use Prim.Native.Nat.{◌+◌, ◌*◌}
+use native.Mathlib.Nat.{add-zero}
 use native.Mathlib.Omega.{arith}
-use lib.ListN.{length}
-use Rattle.utf8.specs.Runs.{Stretch}
-use Rattle.utf8.proofs.Stretch.{none, join}
+use mathlib.Core.Path.{◌≡◌, sym, ◌∙◌}
+use Rattle.utf8.proofs.Stretch.{none, block}
 use Rattle.utf8.proofs.blocks_end.Goals as goal
 
-pub loop-at-preserved : goal.loop-at-preserved
-loop-at-preserved c =
-    join c.loop-at.invariant (c.plain_block.ensures c.if-not-plain_block.false)
+pub loop-k-init : goal.loop-k-init
+loop-k-init c = rw add-zero (none _ _ c.requires)
 
-pub loop-at-init : goal.loop-at-init
-loop-at-init c = none _ _ c.requires
-
-pub returns-then-not-plain_block : goal.returns-then-not-plain_block
-returns-then-not-plain_block c = c.loop-at.invariant
-
-pub returns : goal.returns
-returns c = c.loop-at.invariant
+pub loop-k-preserved : goal.loop-k-preserved
+loop-k-preserved c =
+    let next : c.args.from + (c.loop-k.k + 1) * 64 ≡ c.args.from + c.loop-k.k * 64 + 64 = omega arith in
+    rw next (block 64 c.loop-k.invariant (sym c.plain.ensures ∙ c.if-not-plain.false) (omega arith))

@@ -1,14 +1,7 @@
--- `utf8::blocks_end` meets its contract. The invariant: what was passed is a run of characters.
-use borrow.Author.Tests.{not-false}
-use Prim.Native.Nat.{◌-◌}
-use native.Mathlib.Omega.{arith}
-use lib.ListN.{length}
+-- The invariant: what was passed is a run of characters.
+use Prim.Native.Nat.{◌+◌, ◌*◌}
 use Rattle.utf8.specs.Runs.{Stretch}
-use Rattle.utf8.proofs.Stretch.{none, join}
 use Rattle.utf8.proofs.blocks_end.Given as goal
 
-abbrev pub invariant-loop-at : goal.invariant-loop-at
-invariant-loop-at l = Stretch l.s l.from l.at
-
-abbrev pub decreases-loop-at : goal.decreases-loop-at
-decreases-loop-at l = length l.s - l.at
+abbrev pub invariant-loop-k : goal.invariant-loop-k
+invariant-loop-k l = Stretch l.s l.from (l.from + l.k * 64)

@@ -1,14 +1,6 @@
--- `utf8::far_end` meets its contract. The invariant: what was passed is a run of characters.
-use borrow.Author.Rules.{rules}
-use Prim.Native.Nat.{◌-◌}
-use native.Mathlib.Omega.{arith}
-use lib.ListN.{length}
+-- The invariant: what was passed is a run of characters.
 use Rattle.utf8.specs.Runs.{Stretch}
-use Rattle.utf8.proofs.Stretch.{plain}
 use Rattle.utf8.proofs.far_end.Given as goal
 
 abbrev pub invariant-loop-at : goal.invariant-loop-at
 invariant-loop-at l = Stretch l.s l.from l.at
-
-abbrev pub decreases-loop-at : goal.decreases-loop-at
-decreases-loop-at l = length l.s - l.at

@@ -1,5 +1,4 @@
 -- `utf8::follows` meets its contract: each answer by the tests that led to it.
-use borrow.Author.Rules.{rules}
 use borrow.Author.Tests.{le-leb, lt-leb}
 use mathlib.Core.Path.{sym, ◌∙◌}
 use native.Mathlib.Omega.{arith}

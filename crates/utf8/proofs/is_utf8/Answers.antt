@@ -1,7 +1,6 @@
 -- `utf8::is_utf8` meets its contract: ASCII is valid, and the table that it lends else passes the test.
 use mathlib.Core.Path.{sym, ◌∙◌}
 use mathlib.Core.Bool.{and-eq-true_iff}
-use borrow.Author.Rules.{rules}
 use lib.Dec.{ltb}
 use lib.ListN.{length}
 use Rattle.utf8.specs.Utf8.{plain}

@@ -1,5 +1,4 @@
 -- `utf8::step` meets its contract: the table that it lends has the rule.
-use borrow.Author.Rules.{rules}
 use Rattle.utf8.proofs.Rule.{class-table}
 use Rattle.utf8.proofs.step.Goals as goal
 

@@ -1,11 +1,8 @@
-use borrow.Author.Rules.{rules}
-use Prim.Native.Nat.{◌-◌}
 use mathlib.Core.Path.{◌≡◌, refl, sym, ◌∙◌}
 use native.Mathlib.Omega.{arith}
-use lib.ListN.{length, drop}
+use lib.ListN.{drop}
 use Rattle.utf8.specs.declared.Part.TheVariants.{Good}
 use Rattle.utf8.specs.Utf8.{class_at, step_of}
-use Rattle.utf8.specs.Runs.{Stretch}
 use Rattle.utf8.proofs.Steps.{opened}
 use Rattle.utf8.proofs.Turn.{Turn, good}
 use Rattle.utf8.proofs.Stretch.{none, char}
@@ -14,7 +11,7 @@ use Rattle.utf8.proofs.threes_end.Goals.{In-Good}
 
 steps : (c : In-Good) → step_of (drop c.loop-at.at c.args.s.now) ≡ Good c.in-Good.n
 unfolding class_at
-steps c = opened c.args.s.now c.loop-at.at 3 (omega arith) (sym c.number_of.ensures ∙ c.if-number_of-ne3.false) ∙ sym c.three-x.ensures ∙ c.in-Good.is
+steps c = opened c.args.s.now c.loop-at.at 3 (omega arith) (sym c.number_of.ensures ∙ c.if-number_of-ne3.false) ∙ sym c.character.ensures ∙ c.in-Good.is
 
 goes : (c : In-Good) → Turn c.args.s.now c.loop-at.at (Good c.in-Good.n)
 goes c = good (sym (steps c)) refl

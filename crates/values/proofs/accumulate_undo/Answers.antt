@@ -4,12 +4,14 @@ use mir.Syntax.{w32}
 use mir.Val.{SFits, to_z, of_z}
 use mir.Facts.{to_z-of_z}
 use lib.IntN.{ℤ, ◌-ℤ◌}
+use Rattle.std.specs.Int.{saturate_signed}
 use Rattle.values.specs.Undo.{sat32, accumulated}
+use Rattle.values.proofs.Sums.{saturated}
 use Rattle.values.proofs.accumulate_undo.Goals as goal
 
 -- a difference of two numbers as an i32 holds them
-apart : (x y : ℤ) → SFits w32 x → SFits w32 y → sat32 (to_z w32 (of_z w32 x) -ℤ to_z w32 (of_z w32 y)) ≡ sat32 (x -ℤ y)
-apart x y f g = rw (to_z-of_z f, to_z-of_z g)
+apart : (x y : ℤ) → SFits w32 x → SFits w32 y → saturate_signed w32 (to_z w32 (of_z w32 x) -ℤ to_z w32 (of_z w32 y)) ≡ sat32 (x -ℤ y)
+apart x y f g = rw (to_z-of_z f, to_z-of_z g) (saturated (x -ℤ y))
 
 pub returns : goal.returns
 unfolding accumulated

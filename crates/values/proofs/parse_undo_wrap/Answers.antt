@@ -1,5 +1,4 @@
 use mathlib.Core.Path.{◌≡◌, ap, ◌∙◌}
-use borrow.Author.Rules.{rules}
 use Rattle.lists.specs.Bytes.{ascii}
 use Rattle.number.specs.Trim.{trim}
 use Rattle.number.specs.Fields.{field}

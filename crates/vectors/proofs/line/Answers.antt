@@ -1,4 +1,4 @@
-use Rattle.std.proofs.Common.{◌∙◌, zero-add, arith, rules}
+use Rattle.std.proofs.Common.{◌∙◌, zero-add, arith}
 use Rattle.lists.specs.Bytes.{ascii}
 use Rattle.lists.proofs.Wrote.{start, next, from_start}
 use Rattle.decimal.specs.Writing.{decimal}

@@ -1,46 +1,34 @@
-use mathlib.Core.Path.{◌≡◌, refl, sym, ◌∙◌}
-use mathlib.Core.List.{[]}
-use Prim.Native.Nat.{◌≤◌, ◌<◌, ◌-◌}
 use native.Mathlib.Omega.{arith}
-use borrow.Author.Rules.{rules}
-use lib.ListN.{length, drop, get_or, length-set, length-drop}
-use lib.Seq.{paste, paste-zero}
+use mathlib.Core.Path.{◌≡◌, sym, ◌∙◌}
+use lib.ListN.{length, drop}
+use Rattle.std.specs.Prelude.{Some}
 use Rattle.words.specs.Words.{hex_byte, hex_bytes}
-use Rattle.words.proofs.Hex.{long-enough, no_more, one_more, next, one-put, all, done}
+use Rattle.words.proofs.Hex.{no_more, one_more, next, one-put, all, done}
 use Rattle.words.proofs.hex_bytes.Goals as goal
 
-pub loop-n-init : goal.loop-n-init
-loop-n-init c =
+pub returns-in_default : goal.returns-in_default
+returns-in_default c =
     let g = c.args in
-    (omega arith, omega arith, refl, paste-zero g.out.now 0 (hex_bytes (drop g.at g.text.now)), refl)
-
-pub returns-then-b-gt255 : goal.returns-then-b-gt255
-returns-then-b-gt255 c =
-    let g = c.args in
+    let l = c.loop-n in
     let w = hex_bytes (drop g.at g.text.now) in
-    let e : drop c.loop-n.n w ≡ [] = c.loop-n.invariant.4 ∙ no_more (drop c.loop-n.i g.text.now) (omega (arith, c.hex_byte-b.ensures)) in
-    done w c.loop-n.n g.out.now c.loop-n.out c.loop-n.invariant.3 (omega (arith, all w c.loop-n.n c.loop-n.invariant.0 e))
-
-pub overflow_add-i : goal.overflow_add-i
-overflow_add-i c =
-    let s = c.args.text.now in
-    record { fits = omega (arith, length-drop c.loop-n.i s, long-enough (drop c.loop-n.i s) (omega (arith, c.hex_byte-b.ensures))) }
+    let e : drop l.n w ≡ _ = l.invariant.2 ∙ no_more (drop l.i g.text.now) (sym c.hex_byte.ensures ∙ c.in_default.is) in
+    done w l.n g.out.now l.out l.invariant.1 (omega (arith, all w l.n l.invariant.0 e))
 
 pub loop-n-preserved : goal.loop-n-preserved
 loop-n-preserved c =
     let g = c.args in
+    let l = c.loop-n in
     let w = hex_bytes (drop g.at g.text.now) in
-    let h : hex_byte (drop c.loop-n.i g.text.now) < 256 = omega (arith, c.hex_byte-b.ensures) in
-    let x = next w c.loop-n.n _ _ (c.loop-n.invariant.4 ∙ one_more g.text.now c.loop-n.i h) in
-    let v : c.hex_byte-b.result ≡ get_or w c.loop-n.n 0 = c.hex_byte-b.ensures ∙ sym x.1 in (
+    let h : hex_byte (drop l.i g.text.now) ≡ Some c.in-Some.b = sym c.hex_byte.ensures ∙ c.in-Some.is in
+    let x = next w l.n _ _ (l.invariant.2 ∙ one_more g.text.now l.i h) in (
       omega (arith, x.0),
-      omega arith,
-      simp length-set c.loop-n.invariant.2,
-      rw (v, c.loop-n.invariant.3) (one-put w c.loop-n.n g.out.now (omega arith) x.0),
+      rw (← x.1, l.invariant.1) (one-put w l.n g.out.now (omega arith) x.0),
       x.2,
     )
 
 pub returns : goal.returns
 returns c =
     let g = c.args in
-    done (hex_bytes (drop g.at g.text.now)) c.loop-n.n g.out.now c.loop-n.out c.loop-n.invariant.3 (omega arith)
+    let l = c.loop-n in
+    let n : length l.out ≡ l.n = omega arith in
+    rw n (done (hex_bytes (drop g.at g.text.now)) l.n g.out.now l.out l.invariant.1 (omega arith))
