@@ -2,6 +2,7 @@
 """Places in src/ of the forms that docs/DESIGN-PASS.md counts.
 
 usage: tools/places.py [POINT]     prints each place of a point, 1 to 7, and how many there are; without a point, the counts alone
+       tools/places.py facts       prints each fact that stands in the requires of three functions or more, and in how many
 
 It reads text, not meaning: a place that is printed is one to look at.
 """
@@ -124,7 +125,7 @@ def by_hand():
 
 
 def together():
-    """Point 5: parameters that travel together through three functions or more, and facts in three contracts or more."""
+    """Point 5: parameters that travel together through three functions or more; its facts are counted by `facts`."""
     groups = [("start", "end", "count"), ("left_steps", "right_steps", "mode"),
               ("track_gain", "track_peak", "album_gain", "album_peak", "algorithm"), ("front", "from", "to")]
     for name, text in sources():
@@ -137,11 +138,45 @@ def together():
                     yield f"{name}::{f}: {', '.join(g)}"
 
 
+def conjuncts(text):
+    """The facts of a clause that are joined by the product sign, without the brackets around each."""
+    out, depth, item = [], 0, ""
+    for c in text:
+        depth += (c in "({[") - (c in ")}]")
+        if c == "×" and depth == 0:
+            out.append(item)
+            item = ""
+        else:
+            item += c
+    for fact in out + [item]:
+        fact = " ".join(fact.split())
+        while fact.startswith("(") and fact.endswith(")"):
+            fact = fact[1:-1].strip()
+        if fact:
+            yield fact
+
+
+def facts():
+    """Point 5: facts that the requires of three functions or more share, whatever they call what they speak of."""
+    where = collections.defaultdict(set)
+    for name, text in sources():
+        if is_face(name) or is_program(name):
+            continue
+        for f, head, _ in functions(text):
+            params = set(re.findall(r"(\w+): ", re.split(r"\brequires\b|\bensures\b", head)[0]))
+            for m in re.finditer(r"\brequires\b[^{]*\{(.*?)\}\n", head, re.S):
+                for fact in conjuncts(m[1]):
+                    where[re.sub(r"\b\w+\b", lambda w: "_" if w[0] in params else w[0], fact)].add(f"{name}::{f}")
+    for fact, fs in sorted(where.items(), key=lambda x: -len(x[1])):
+        if len(fs) >= 3:
+            yield f"{len(fs)}  {fact}"
+
+
 def beside():
     """Point 6: a buffer with its length beside it, and parallel arrays."""
     for name, text in sources():
         for m in TYPE.finditer(text):
-            if m[1] == "struct" and re.search(r"\blen: usize", m[3]) and re.search(r": \[u8; \d+\]", m[3]):
+            if m[1] == "struct" and re.search(r"\blen: usize", m[3]) and re.search(r": \[u8; \w+\]", m[3]):
                 yield f"{name}: struct {m[2]}"
         for f, _, body in functions(text):
             if re.search(r"&\w+\[0\.\.n\]", body) and ".len;" in body:
@@ -161,7 +196,7 @@ POINTS = {1: shapes, 2: twins, 3: loops, 4: by_hand, 5: together, 6: beside, 7: 
 
 def main():
     if len(sys.argv) > 1:
-        point = POINTS[int(sys.argv[1])]
+        point = facts if sys.argv[1] == "facts" else POINTS[int(sys.argv[1])]
         places = list(point())
         print("\n".join(places))
         print(f"{len(places)} places")
