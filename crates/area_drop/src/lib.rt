@@ -2,21 +2,77 @@
 #![tactic(auto)]
 
 ghost use Rattle.std.specs.Prelude.{◌≡◌, ℕ, Bool, List, true, ◌≤◌, length};
-ghost use Rattle.std.specs.Fn.{FnReturnsAt};
 ghost use Rattle.lists.specs.Choice.{is_some};
 ghost use Rattle.lists.specs.Write.{over};
-ghost use Rattle.keys.specs.Keys.{is_mp3gain_key, is_undone, is_replay_gain};
+ghost use Rattle.keys.specs.Keys.{same_key, is_mp3gain_key, is_undone, is_replay_gain};
 ghost use Rattle.items.specs.Items.{area_bytes, parse, items_in, without};
 ghost use Rattle.area_edit.specs.Edits.{answer, bytes};
-ghost use Rattle.area_drop.specs.Drops.{Tests, measured_of, remove_plan, drop_plan};
+ghost use Rattle.area_drop.specs.Drops.{measured_of, remove_plan, drop_plan};
 
 use items::{Size, Stepped};
 use replies::Refusal;
 
+// A test of keys: the items whose keys pass it go. A trait, since of a closure each call would have to be shown that it may be called and what it answers.
+pub trait KeyTest {
+    ghost test: { Self → List ℕ → Bool };
+
+    fn passes(&self, key: &[u8]) -> bool
+        ensures { result ≡ test self.now key.now };
+}
+
+// The keys that are the same as this one, in any letter case.
+#[derive(Clone, Copy)]
+pub struct Same<'a> {
+    pub key: &'a [u8],
+}
+
+impl<'a> KeyTest for Same<'a> {
+    ghost test = { λ t. same_key t.key.now };
+
+    fn passes(&self, key: &[u8]) -> bool {
+        keys::same_key(self.key, key)
+    }
+}
+
+// REPLAYGAIN_KEYS.
+#[derive(Clone, Copy)]
+pub struct ReplayGain;
+
+impl KeyTest for ReplayGain {
+    ghost test = { λ t. is_replay_gain };
+
+    fn passes(&self, key: &[u8]) -> bool {
+        keys::is_replaygain(key)
+    }
+}
+
+// UNDONE_KEYS.
+#[derive(Clone, Copy)]
+pub struct Undone;
+
+impl KeyTest for Undone {
+    ghost test = { λ t. is_undone };
+
+    fn passes(&self, key: &[u8]) -> bool {
+        keys::is_undone(key)
+    }
+}
+
+// The eight keys.
+#[derive(Clone, Copy)]
+pub struct Mp3gain;
+
+impl KeyTest for Mp3gain {
+    ghost test = { λ t. is_mp3gain_key };
+
+    fn passes(&self, key: &[u8]) -> bool {
+        keys::is_mp3gain(key)
+    }
+}
+
 // What is left of an area without the items whose keys pass the test, in one pass that also tests the area.
-pub fn measure_without<F: Fn(&[u8]) -> bool>(area: &[u8], count: usize, goes: F) -> Option<Size>
-    requires { F.IsAlwaysCallable goes }
-    ensures { (p : List ℕ → Bool) → Tests (FnReturnsAt F.Fn goes) p → result ≡ measured_of (without p) count area.now }
+pub fn measure_without<T: KeyTest>(area: &[u8], count: usize, goes: &T) -> Option<Size>
+    ensures { result ≡ measured_of (without (T.test goes.now)) count area.now }
 {
     if count > area.len() / 9 {
         return None;
@@ -34,7 +90,7 @@ pub fn measure_without<F: Fn(&[u8]) -> bool>(area: &[u8], count: usize, goes: F)
         else {
             return None;
         };
-        if !goes(&area[key_start..key_end]) {
+        if !goes.passes(&area[key_start..key_end]) {
             n += 1;
             size += value_end - at;
         }
@@ -51,16 +107,10 @@ pub fn measure_without<F: Fn(&[u8]) -> bool>(area: &[u8], count: usize, goes: F)
 }
 
 // Writes the items of a well-formed area whose keys do not pass the test to the front of `out`.
-pub fn write_without<F: Fn(&[u8]) -> bool>(
-    area: &[u8],
-    count: usize,
-    goes: F,
-    out: &mut [u8],
-) -> usize
-    requires callable { F.IsAlwaysCallable goes }
+pub fn write_without<T: KeyTest>(area: &[u8], count: usize, goes: &T, out: &mut [u8]) -> usize
     requires formed { is_some (parse count area.now) ≡ true }
-    requires room { (p : List ℕ → Bool) × Tests (FnReturnsAt F.Fn goes) p × (length (area_bytes (without p (items_in count area.now))) ≤ length out.old) }
-    ensures { (p : List ℕ → Bool) → Tests (FnReturnsAt F.Fn goes) p → let new = area_bytes (without p (items_in count area.now)) in
+    requires room { length (area_bytes (without (T.test goes.now) (items_in count area.now))) ≤ length out.old }
+    ensures { let new = area_bytes (without (T.test goes.now) (items_in count area.now)) in
         (result ≡ length new) × (out.new ≡ over new out.old) }
 {
     let mut at = 0;
@@ -75,7 +125,7 @@ pub fn write_without<F: Fn(&[u8]) -> bool>(
         else {
             return o;
         };
-        if !goes(&area[key_start..key_end]) {
+        if !goes.passes(&area[key_start..key_end]) {
             o = lists::put_part(out, o, area, at, value_end);
         }
         at = value_end;
@@ -84,15 +134,13 @@ pub fn write_without<F: Fn(&[u8]) -> bool>(
 }
 
 // The area without the items whose keys pass the test.
-fn edit_without<F: Fn(&[u8]) -> bool + Copy>(
+fn edit_without<T: KeyTest>(
     area: &[u8],
     count: usize,
-    goes: F,
+    goes: &T,
     out: &mut [u8],
 ) -> Result<Size, Refusal>
-    requires callable { F.IsAlwaysCallable goes }
-    requires tests { (p : List ℕ → Bool) × Tests (FnReturnsAt F.Fn goes) p }
-    ensures { (p : List ℕ → Bool) → Tests (FnReturnsAt F.Fn goes) p → let plan = drop_plan p count area.now (length out.old) in
+    ensures { let plan = drop_plan (T.test goes.now) count area.now (length out.old) in
         (result ≡ answer plan) × (out.new ≡ over (bytes plan) out.old) }
 {
     let Some(size) = measure_without(area, count, goes) else {
@@ -111,7 +159,7 @@ pub fn remove(area: &[u8], count: usize, key: &[u8], out: &mut [u8]) -> Result<S
         (result ≡ answer plan) × (out.new ≡ over (bytes plan) out.old) }
 {
     if keys::is_key(key) {
-        edit_without(area, count, |other| keys::same_key(key, other), out)
+        edit_without(area, count, &Same { key }, out)
     } else if items::well_formed(area, count) {
         Err(Refusal::BadKey)
     } else {
@@ -124,7 +172,7 @@ pub fn remove_replaygain(area: &[u8], count: usize, out: &mut [u8]) -> Result<Si
     ensures { let plan = drop_plan is_replay_gain count area.now (length out.old) in
         (result ≡ answer plan) × (out.new ≡ over (bytes plan) out.old) }
 {
-    edit_without(area, count, keys::is_replaygain, out)
+    edit_without(area, count, &ReplayGain, out)
 }
 
 // The area without UNDONE_KEYS.
@@ -132,7 +180,7 @@ pub fn drop_undone(area: &[u8], count: usize, out: &mut [u8]) -> Result<Size, Re
     ensures { let plan = drop_plan is_undone count area.now (length out.old) in
         (result ≡ answer plan) × (out.new ≡ over (bytes plan) out.old) }
 {
-    edit_without(area, count, keys::is_undone, out)
+    edit_without(area, count, &Undone, out)
 }
 
 // The area without the eight keys.
@@ -140,5 +188,5 @@ pub fn take_mp3gain(area: &[u8], count: usize, out: &mut [u8]) -> Result<Size, R
     ensures { let plan = drop_plan is_mp3gain_key count area.now (length out.old) in
         (result ≡ answer plan) × (out.new ≡ over (bytes plan) out.old) }
 {
-    edit_without(area, count, keys::is_mp3gain, out)
+    edit_without(area, count, &Mp3gain, out)
 }

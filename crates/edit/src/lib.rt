@@ -1,24 +1,23 @@
 // Set and remove on a whole file that the gate passes.
 #![tactic(auto)]
 
-ghost use Rattle.std.specs.Prelude.{◌≡◌, ℕ, Bool, List, true, ◌≤◌, ◌+◌, ◌-◌, length};
-ghost use Rattle.std.specs.Fn.{FnReturnsAt};
+ghost use Rattle.std.specs.Prelude.{◌≡◌, true, ◌≤◌, ◌+◌, ◌-◌, length};
 ghost use Rattle.lists.specs.Choice.{is_some};
 ghost use Rattle.lists.specs.Write.{over};
 ghost use Rattle.keys.specs.Keys.{is_key};
 ghost use Rattle.items.specs.Items.{parse, items_in, set_item, without};
-ghost use Rattle.area_drop.specs.Drops.{Tests};
 ghost use Rattle.ape_write.specs.Answers.{written_answer, written_bytes};
 ghost use Rattle.calls.specs.Gate.{items_of};
 ghost use Rattle.calls.specs.Calls.{set_plan, remove_plan};
 ghost use Rattle.gate.specs.Gate.{Passed};
 ghost use Rattle.edit.specs.Finish.{tag_plan};
 
+use area_drop::{KeyTest, Same};
 use gate::TagArea;
 use replies::Refusal;
 
 // How many bytes the items of a tag may have while they are edited: those of a file that is fit for editing, one more, and some.
-const ROOM: usize = 66048;
+pub const ROOM: usize = 66048;
 
 // The same for a small tag: room of this size costs less to clear.
 pub const SMALL_ROOM: usize = 4096;
@@ -102,17 +101,15 @@ pub fn set_ape_item(file: &[u8], key: &[u8], value: &[u8], out: &mut [u8]) -> Re
 }
 
 // Drops the items of a file that is fit for editing whose keys pass the test. Those that stay are written into `new`.
-fn drop_items_in<F: Fn(&[u8]) -> bool + Copy>(
+fn drop_items_in<T: KeyTest>(
     file: &[u8],
     place: TagArea,
-    goes: F,
+    goes: &T,
     new: &mut [u8],
     out: &mut [u8],
 ) -> Result<usize, Refusal>
-    requires callable { F.IsAlwaysCallable goes }
-    requires tests { (p : List ℕ → Bool) × Tests (FnReturnsAt F.Fn goes) p }
-    requires fit { (Passed file.now place) × (length file.now ≤ 16777216) × (place.end - place.start ≤ length new.old) }
-    ensures { (p : List ℕ → Bool) → Tests (FnReturnsAt F.Fn goes) p → let plan = tag_plan file.now (without p (items_of file.now)) (length out.old) in
+    requires { (Passed file.now place) × (length file.now ≤ 16777216) × (place.end - place.start ≤ length new.old) }
+    ensures { let plan = tag_plan file.now (without (T.test goes.now) (items_of file.now)) (length out.old) in
         (result ≡ written_answer plan) × (out.new ≡ over (written_bytes plan) out.old) }
 {
     let area = &file[place.start..place.end];
@@ -124,16 +121,14 @@ fn drop_items_in<F: Fn(&[u8]) -> bool + Copy>(
 }
 
 // The same in room that is large enough.
-pub fn drop_items<F: Fn(&[u8]) -> bool + Copy>(
+pub fn drop_items<T: KeyTest>(
     file: &[u8],
     place: TagArea,
-    goes: F,
+    goes: &T,
     out: &mut [u8],
 ) -> Result<usize, Refusal>
-    requires callable { F.IsAlwaysCallable goes }
-    requires tests { (p : List ℕ → Bool) × Tests (FnReturnsAt F.Fn goes) p }
-    requires fit { (Passed file.now place) × (length file.now ≤ 16777216) }
-    ensures { (p : List ℕ → Bool) → Tests (FnReturnsAt F.Fn goes) p → let plan = tag_plan file.now (without p (items_of file.now)) (length out.old) in
+    requires { (Passed file.now place) × (length file.now ≤ 16777216) }
+    ensures { let plan = tag_plan file.now (without (T.test goes.now) (items_of file.now)) (length out.old) in
         (result ≡ written_answer plan) × (out.new ≡ over (written_bytes plan) out.old) }
 {
     if place.end - place.start <= SMALL_ROOM {
@@ -156,5 +151,5 @@ pub fn remove_ape_item(file: &[u8], key: &[u8], out: &mut [u8]) -> Result<usize,
         return Err(Refusal::BadKey);
     }
     let place = gate::gate(file)?;
-    drop_items(file, place, |other| keys::same_key(key, other), out)
+    drop_items(file, place, &Same { key }, out)
 }

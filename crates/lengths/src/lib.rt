@@ -1,16 +1,15 @@
 // How long the file would be that set, remove or undo writes. Nothing is written.
 #![tactic(auto)]
 
-ghost use Rattle.std.specs.Prelude.{◌≡◌, ℕ, Bool, List, true, ◌≤◌, length};
-ghost use Rattle.std.specs.Fn.{FnReturnsAt};
+ghost use Rattle.std.specs.Prelude.{◌≡◌, true, ◌≤◌, length};
 ghost use Rattle.keys.specs.Keys.{is_key};
 ghost use Rattle.items.specs.Items.{area_bytes, set_item, without};
-ghost use Rattle.area_drop.specs.Drops.{Tests};
 ghost use Rattle.calls.specs.Gate.{items_of};
 ghost use Rattle.calls.specs.Lengths.{set_length, remove_length, undo_length};
 ghost use Rattle.gate.specs.Gate.{Passed};
 ghost use Rattle.lengths.specs.Sizes.{last_length, length_answer};
 
+use area_drop::{KeyTest, Mp3gain, Same};
 use gate::TagArea;
 use replies::Refusal;
 
@@ -67,11 +66,9 @@ pub fn set_length(file: &[u8], key: &[u8], value: &[u8]) -> Result<usize, Refusa
 }
 
 // The same for a drop of the items whose keys pass the test, in a file that is fit for editing.
-fn drop_length<F: Fn(&[u8]) -> bool>(file: &[u8], place: TagArea, goes: F) -> Result<usize, Refusal>
-    requires callable { F.IsAlwaysCallable goes }
-    requires tests { (p : List ℕ → Bool) × Tests (FnReturnsAt F.Fn goes) p }
-    requires fit { (Passed file.now place) × (length file.now ≤ 16777216) }
-    ensures { (p : List ℕ → Bool) → Tests (FnReturnsAt F.Fn goes) p → let ts = without p (items_of file.now) in
+fn drop_length<T: KeyTest>(file: &[u8], place: TagArea, goes: &T) -> Result<usize, Refusal>
+    requires { (Passed file.now place) × (length file.now ≤ 16777216) }
+    ensures { let ts = without (T.test goes.now) (items_of file.now) in
         result ≡ length_answer (last_length file.now (length (area_bytes ts)) (length ts)) }
 {
     let area = &file[place.start..place.end];
@@ -92,7 +89,7 @@ pub fn remove_length(file: &[u8], key: &[u8]) -> Result<usize, Refusal>
         return Err(Refusal::BadKey);
     }
     let place = gate::gate(file)?;
-    drop_length(file, place, |other| keys::same_key(key, other))
+    drop_length(file, place, &Same { key })
 }
 
 // How long the file would be that undo writes: refusals 1, 7, 8, 14, 10 and 5. Of the gains it asks only whether there are left ones.
@@ -100,5 +97,5 @@ pub fn undo_length(file: &[u8], left: &[u8], right: &[u8]) -> Result<usize, Refu
     ensures { result ≡ length_answer (undo_length file.now left.now right.now) }
 {
     let ready = checks::check_undo(file, 0 < left.len())?;
-    drop_length(file, ready.area, keys::is_mp3gain)
+    drop_length(file, ready.area, &Mp3gain)
 }

@@ -13,6 +13,7 @@ ghost use Rattle.calls.specs.Calls.{wraps as wraps_by, shifted_items, is_peak_ke
 ghost use Rattle.gains.specs.Moves.{level_by};
 ghost use Rattle.level_items.specs.Items.{Wrote, undone_items, ranged_items};
 
+use area_drop::Undone;
 use frame::{GainMode, GainSteps};
 use gains::Moving;
 use items::{Size, Stepped};
@@ -69,8 +70,8 @@ fn put_moved(area: &[u8], count: usize, moves: Moving, out: &mut [u8]) -> Size
     if moves.left.0 == moves.right.0 {
         return area_shift::write_shifted(area, count, moves.left, moves.mode, out);
     }
-    let size = area_drop::measure_without(area, count, keys::is_undone).unwrap();
-    area_drop::write_without(area, count, keys::is_undone, out);
+    let size = area_drop::measure_without(area, count, &Undone).unwrap();
+    area_drop::write_without(area, count, &Undone, out);
     size
 }
 

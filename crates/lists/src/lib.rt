@@ -63,17 +63,8 @@ pub fn find_byte(s: &[u8], at: usize, byte: u8) -> usize
     find_each(s, a, byte)
 }
 
-// Writes all of `src` into `out` from `at`, and answers where it ends.
-pub fn put(out: &mut [u8], at: usize, src: &[u8]) -> usize
-    requires { at + length src.now ≤ length out.old }
-    ensures { (result ≡ at + length src.now) × (out.new ≡ splice out.old at src.now) }
-{
-    let end = at + src.len();
-    out[at..end].copy_from_slice(src);
-    end
-}
-
-// `put` in rising order of place, one byte after another: a file that is rewritten where it is may be cut off between any two of them.
+// Writes all of `src` into `out` from `at`, and answers where it ends: in rising order of place, one byte after another, since a file that is rewritten
+// where it is may be cut off between any two of them. No `copy_from_slice`: it calls `memmove`, and the archives need no C library.
 pub fn put_rising(out: &mut [u8], at: usize, src: &[u8]) -> usize
     requires { at + length src.now ≤ length out.old }
     ensures { (result ≡ at + length src.now) × (out.new ≡ splice out.old at src.now) }
@@ -82,6 +73,14 @@ pub fn put_rising(out: &mut [u8], at: usize, src: &[u8]) -> usize
         out[at + i] = x;
     }
     at + src.len()
+}
+
+// `put_rising` where the order is no matter.
+pub fn put(out: &mut [u8], at: usize, src: &[u8]) -> usize
+    requires { at + length src.now ≤ length out.old }
+    ensures { (result ≡ at + length src.now) × (out.new ≡ splice out.old at src.now) }
+{
+    put_rising(out, at, src)
 }
 
 // `put` for a long part, 512 bytes of one half and 512 of the other in turn: a machine reads ahead at both places.

@@ -13,6 +13,7 @@ ghost use Rattle.sound_calls.specs.Sound.{level_sound_plan, level_mp3_plan, undo
 ghost use Rattle.slip.specs.Slip.{is_step};
 ghost use Rattle.sound_level.specs.Tagged.{tagged_plan};
 
+use area_drop::Mp3gain;
 use frame::{GainMode, GainSteps};
 use gains::Moving;
 use level::Leveled;
@@ -103,7 +104,7 @@ pub fn undo_mp3(file: &[u8], out: &mut [u8]) -> Result<Leveled, Refusal>
         return Err(Refusal::HasChecksum);
     }
     let ready = checks::check_undo(file, true)?;
-    let length = edit::drop_items(file, ready.area, keys::is_mp3gain, out)?;
+    let length = edit::drop_items(file, ready.area, &Mp3gain, out)?;
     let undo = ready.undo;
     let back = Moving {
         left: GainSteps(undo.left),

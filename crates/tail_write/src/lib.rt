@@ -21,8 +21,8 @@ struct Place {
     to: usize,
 }
 
-// What is found after so many writes: all were made, and the length is set; or they came to their end before that, and the file has this length; or the
-// call was refused, and none was made. `end` is the first place that is written, or the file's length where nothing is.
+// What is found after so many writes: all were made, and the length is set; or they came to their end before that, and the file has this length.
+// `end` is the first place that is written, or the file's length where nothing is.
 #[derive(Clone, Copy)]
 pub enum Rewritten {
     Done { end: usize, length: usize },

@@ -6,6 +6,7 @@ ghost use Rattle.lists.specs.Write.{over};
 ghost use Rattle.calls.specs.Calls.{undo_plan};
 ghost use Rattle.level.specs.Answers.{level_answer, level_bytes, left_after, right_after};
 
+use area_drop::Mp3gain;
 use frame::{GainMode, GainSteps};
 use level::Leveled;
 use replies::Refusal;
@@ -23,7 +24,7 @@ pub fn undo(
         × (left.new ≡ left_after plan left.old) × (right.new ≡ right_after plan right.old) }
 {
     let ready = checks::check_undo(file, 0 < left.len())?;
-    let length = edit::drop_items(file, ready.area, keys::is_mp3gain, out)?;
+    let length = edit::drop_items(file, ready.area, &Mp3gain, out)?;
     let undo = ready.undo;
     let mode = GainMode::from_wrap(undo.wrap);
     gains::adjust_gains(left, GainSteps(undo.left), mode);

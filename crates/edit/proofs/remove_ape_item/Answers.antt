@@ -4,7 +4,7 @@ use mathlib.Core.List.{[]}
 use mathlib.Core.Bool.{true}
 use borrow.Author.Rules.{rules}
 use lib.ListN.{length}
-use Rattle.keys.specs.Keys.{same_key, is_key}
+use Rattle.keys.specs.Keys.{is_key}
 use Rattle.gate.specs.Gate.{Passed}
 use Rattle.gate.proofs.Gates.{gate-unfit, gate-passed}
 use Rattle.edit.proofs.Plans.{remove-1, remove-3, remove-8, remove-rest}
@@ -34,14 +34,10 @@ returns-in_err-place c =
 passed : (c : In_ok-place) → Passed c.args.file.now c.in_ok-place.place
 passed c = gate-passed c.args.file.now c.gate.ensures c.in_ok-place.was
 
-pub drop_items-requires-clause-tests : goal.drop_items-requires-clause-tests
-drop_items-requires-clause-tests c = (same_key c.args.key.now, λ k b s e. search rules)
-
-pub drop_items-requires-clause-fit : goal.drop_items-requires-clause-fit
-drop_items-requires-clause-fit c = (passed (goal.at.drop_items-requires-clause-fit c).In_ok-place, c.if-file-gt-FILE_LIMIT.false)
+pub drop_items-requires : goal.drop_items-requires
+drop_items-requires c = (passed (goal.at.drop_items-requires c).In_ok-place, c.if-file-gt-FILE_LIMIT.false)
 
 pub returns : goal.returns
 returns c =
     let g = c.args in
-    rw (remove-rest g.file.now g.key.now [] (length g.out.now) c.if-file-gt-FILE_LIMIT.false (key (goal.at.returns c).Else-not-is_key) (passed (goal.at.returns c).In_ok-place).passes)
-    (c.drop_items.ensures (same_key g.key.now) (λ k b s e. search rules))
+    rw (remove-rest g.file.now g.key.now [] (length g.out.now) c.if-file-gt-FILE_LIMIT.false (key (goal.at.returns c).Else-not-is_key) (passed (goal.at.returns c).In_ok-place).passes) c.drop_items.ensures

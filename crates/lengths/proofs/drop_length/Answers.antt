@@ -9,12 +9,14 @@ use Rattle.area_drop.proofs.Plans.{sized, unsized}
 use Rattle.lengths.proofs.drop_length.Goals as goal
 
 pub returns-in_default : goal.returns-in_default
-returns-in_default g c p h =
+returns-in_default g c =
     let a = c.args in
-    absurd (true≢false (sym c.requires.fit.0.good ∙ unsized (without p) a.place.count (part a.place.start a.place.end a.file.now) (c.in_default.ensures p h)))
+    let p = g.T.KeyTest.test a.goes.now in
+    absurd (true≢false (sym c.requires.0.good ∙ unsized (without p) a.place.count (part a.place.start a.place.end a.file.now) c.in_default.ensures))
 
 pub returns : goal.returns
-returns g c p h =
+returns g c =
     let a = c.args in
-    let s = sized (without p) a.place.count (part a.place.start a.place.end a.file.now) c.in-Some.left (c.in-Some.ensures p h) in
-    rw (← c.requires.fit.0.items, ← s.count, ← s.length) c.last_length.ensures
+    let p = g.T.KeyTest.test a.goes.now in
+    let s = sized (without p) a.place.count (part a.place.start a.place.end a.file.now) c.in-Some.left c.in-Some.ensures in
+    rw (← c.requires.0.items, ← s.count, ← s.length) c.last_length.ensures

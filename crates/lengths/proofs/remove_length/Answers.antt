@@ -4,7 +4,7 @@ use mathlib.Core.Bool.{true}
 use mathlib.Core.List.{[]}
 use borrow.Author.Rules.{rules}
 use borrow.Author.Tests.{not-true, not-false}
-use Rattle.keys.specs.Keys.{same_key, is_key}
+use Rattle.keys.specs.Keys.{is_key}
 use Rattle.items.specs.Items.{remove_item}
 use Rattle.calls.specs.Gate.{items_of}
 use Rattle.gate.specs.Gate.{Passed}
@@ -41,15 +41,11 @@ returns-in_err-place c =
 passed : (c : In_ok-place) → Passed c.args.file.now c.in_ok-place.place
 passed c = gate-passed c.args.file.now c.gate.ensures c.in_ok-place.was
 
-pub drop_length-requires-clause-tests : goal.drop_length-requires-clause-tests
-drop_length-requires-clause-tests c = (same_key c.args.key.now, λ k b s e. search rules)
-
-pub drop_length-requires-clause-fit : goal.drop_length-requires-clause-fit
-drop_length-requires-clause-fit c = (passed (goal.at.drop_length-requires-clause-fit c).In_ok-place, c.if-file-gt-FILE_LIMIT.false)
+pub drop_length-requires : goal.drop_length-requires
+drop_length-requires c = (passed (goal.at.drop_length-requires c).In_ok-place, c.if-file-gt-FILE_LIMIT.false)
 
 pub returns : goal.returns
 unfolding remove_length
 returns c =
     let g = c.args in
-    rw (remove-rest g.file.now g.key.now [] unlimited c.if-file-gt-FILE_LIMIT.false (key (goal.at.returns c).Else-not-is_key) (passed (goal.at.returns c).In_ok-place).passes, ← tag_is g.file.now (remove_item g.key.now (items_of g.file.now)))
-    (c.drop_length.ensures (same_key g.key.now) (λ k b s e. search rules))
+    rw (remove-rest g.file.now g.key.now [] unlimited c.if-file-gt-FILE_LIMIT.false (key (goal.at.returns c).Else-not-is_key) (passed (goal.at.returns c).In_ok-place).passes, ← tag_is g.file.now (remove_item g.key.now (items_of g.file.now))) c.drop_length.ensures

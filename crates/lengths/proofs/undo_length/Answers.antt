@@ -4,7 +4,6 @@ use Rattle.std.specs.Prelude.{Err}
 use borrow.Author.Rules.{rules}
 use lib.ListN.{length}
 use lib.Dec.{ltb}
-use Rattle.keys.specs.Keys.{is_mp3gain_key}
 use Rattle.calls.specs.Lengths.{unlimited, undo_length}
 use Rattle.checks.specs.Checks.{undo_check}
 use Rattle.checks.proofs.Whole.{any-is, Undoes, undo-ready, undo-not, undo-refused}
@@ -23,14 +22,11 @@ returns-in_err-ready c =
     let r : c.from_residual.result ≡ Err c.in_err-ready.field-0.0 = search rules in
     rw (undo-refused g.file.now g.left.now g.right.now unlimited (ap (undo_check g.file.now) (sym (any-is g.left.now)) ∙ undo-not g.file.now (ltb 0 (length g.left.now)) c.in_err-ready.ensures), r)
 
-pub drop_length-requires-clause-tests : goal.drop_length-requires-clause-tests
-drop_length-requires-clause-tests c = (is_mp3gain_key, λ k b s e. search rules)
-
-pub drop_length-requires-clause-fit : goal.drop_length-requires-clause-fit
-drop_length-requires-clause-fit c = let r = ready (goal.at.drop_length-requires-clause-fit c).In_ok-ready in (r.passed, r.short)
+pub drop_length-requires : goal.drop_length-requires
+drop_length-requires c = let r = ready (goal.at.drop_length-requires c).In_ok-ready in (r.passed, r.short)
 
 pub returns : goal.returns
 returns c =
     let g = c.args in
     let t = ready (goal.at.returns c).In_ok-ready in
-    rw (undo-is g.file.now g.left.now g.right.now t.passed (ap (undo_check g.file.now) (sym (any-is g.left.now)) ∙ t.check)) (c.drop_length.ensures is_mp3gain_key (λ k b s e. search rules))
+    rw (undo-is g.file.now g.left.now g.right.now t.passed (ap (undo_check g.file.now) (sym (any-is g.left.now)) ∙ t.check)) c.drop_length.ensures

@@ -11,7 +11,6 @@ use lib.ListN.{length}
 use lib.Dec.{ltb}
 use Rattle.lists.specs.Write.{over}
 use Rattle.frame.specs.Gain.{mode_of}
-use Rattle.keys.specs.Keys.{is_mp3gain_key}
 use Rattle.values.proofs.ReadBack.{undo-small}
 use Rattle.calls.specs.Calls.{others}
 use Rattle.checks.specs.Checks.{undo_check}
@@ -31,18 +30,15 @@ returns-in_err-ready c =
     let r : c.from_residual.result ≡ Err c.in_err-ready.field-0.0 = search rules in
     rw (undo-refused g.file.now g.left.now g.right.now (length g.out.now) (ap (undo_check g.file.now) (sym (any-is g.left.now)) ∙ undo-not g.file.now (ltb 0 (length g.left.now)) c.in_err-ready.ensures), r) (refl, refl, refl, refl)
 
-pub drop_items-requires-clause-tests : goal.drop_items-requires-clause-tests
-drop_items-requires-clause-tests c = (is_mp3gain_key, λ key b s e. search rules)
-
-pub drop_items-requires-clause-fit : goal.drop_items-requires-clause-fit
-drop_items-requires-clause-fit c = let r = ready (goal.at.drop_items-requires-clause-fit c).In_ok-ready in (r.passed, r.short)
+pub drop_items-requires : goal.drop_items-requires
+drop_items-requires c = let r = ready (goal.at.drop_items-requires c).In_ok-ready in (r.passed, r.short)
 
 pub returns-in_err-length : goal.returns-in_err-length
 unfolding others
 returns-in_err-length c =
     let g = c.args in
     let t = ready (goal.at.returns-in_err-length c).In_ok-ready in
-    let d = c.drop_items.ensures is_mp3gain_key (λ key b s e. search rules) in
+    let d = c.drop_items.ensures in
     let (b, why, nothing) = refused-room t.passed (length g.out.now) (sym c.in_err-length.was ∙ d.0) in
     let r : c.from_residual-in_err-length.result ≡ Err c.in_err-length.field-0.0 = search rules in
     rw (undo-5 g.file.now g.left.now g.right.now (length g.out.now) (ap (undo_check g.file.now) (sym (any-is g.left.now)) ∙ t.check) b, r, why)
@@ -53,7 +49,7 @@ unfolding others
 returns c =
     let g = c.args in
     let t = ready (goal.at.returns c).In_ok-ready in
-    let d = c.drop_items.ensures is_mp3gain_key (λ key b s e. search rules) in
+    let d = c.drop_items.ensures in
     let (b, n, by) = done-fits t.passed (length g.out.now) (sym c.in_ok-length.was ∙ d.0) in
     let l = ap (λ (u : StoredUndo). u.left) t.said-is in
     let r = ap (λ (u : StoredUndo). u.right) t.said-is in
