@@ -6,9 +6,11 @@ use mathlib.Core.Path.{◌≡◌, refl, sym, ap, ◌∙◌}
 use mathlib.Core.Bool.{Bool, true, false, cond}
 use Rattle.std.specs.Prelude.{Option, None, Some, option_map}
 use mathlib.Core.List.{List, [], ◌∷◌, ◌++◌, append_assoc, append-nil}
-use lib.ListN.{length, drop, length-append}
-use lib.Dec.{eqb}
-use borrow.Author.Tests.{eq-eqb, ne_eqb}
+use lib.ListN.{length, drop, length-append, length-take, get_or}
+use Rattle.std.proofs.lemmas.List.{get_or-take, get_or_past}
+use lib.Seq.{get_or-drop}
+use lib.Dec.{eqb, leb}
+use borrow.Author.Tests.{eq-eqb, ne_eqb, leb-true, leb-false}
 use Rattle.lists.specs.Bytes.{Small}
 use Rattle.lists.specs.Choice.{is_some}
 use Rattle.lists.specs.Write.{over, part}
@@ -19,6 +21,14 @@ use Rattle.items.proofs.Area.{length-item, length-area, parse-long, parse-stop, 
 use Rattle.items.proofs.Walk.{Taken, fewer, key-part}
 use Rattle.items.proofs.Loops.{Left, begin, Turn, items-none}
 use Rattle.area_drop.specs.Drops.{measured_of}
+
+-- a part of bytes is one
+pub small-part : (s : List ℕ) (a b : ℕ) → Small s → Small (part a b s)
+small-part s a b h i = go (leb (b - a) i) refl
+  where
+    go : (t : Bool) → leb (b - a) i ≡ t → get_or (part a b s) i 0 < 256
+    go true e = omega (arith, get_or_past (part a b s) i 0 (let u = leb-true _ _ e in simp length-take (omega arith)))
+    go false e = let u = leb-false _ _ e in rw (get_or-take (b - a) (drop a s) i 0 u, get_or-drop) (h (a + i))
 
 module _ (p : List ℕ → Bool) where
   goes : (t : Item) (ts : List Item) → p t.key ≡ true → without p (t ∷ ts) ≡ without p ts

@@ -1,11 +1,16 @@
 -- Edits of a lent item area that drop items (document 01, "Editing and writing").
-use Rattle.std.specs.Prelude.{ℕ, Bool, Option, option_map, List, [], ◌∷◌, length}
+use Rattle.std.specs.Prelude.{◌≡◌, ℕ, Bool, Option, option_map, List, [], ◌∷◌, length}
+use Rattle.lists.specs.Bytes.{Small}
 use Rattle.replies.specs.Refusal.{need, Plan}
 use Rattle.replies.specs.declared.Refusal.TheVariants.{BadKey}
 use Rattle.keys.specs.Keys.{is_key}
 use Rattle.items.specs.Items.{Item, area_bytes, parse, without, remove_item}
 use Rattle.items.specs.declared.Size.{Size}
 use Rattle.area_edit.specs.Edits.{edited}
+
+-- what a call at a key may answer is what the test says of it
+abbrev pub Tests : (List ℕ → Bool → Type 0) → (List ℕ → Bool) → Type 0
+Tests post p = (key : List ℕ) (b : Bool) → Small key → post key b → b ≡ p key
 
 -- how many items f makes of those of an area, and how many bytes they have
 abbrev pub measured_of : (List Item → List Item) → ℕ → List ℕ → Option Size

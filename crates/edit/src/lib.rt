@@ -1,11 +1,13 @@
 // Set and remove on a whole file that the gate passes.
 #![tactic(auto)]
 
-ghost use Rattle.std.specs.Prelude.{◌≡◌, true, ◌≤◌, ◌+◌, ◌-◌, length};
+ghost use Rattle.std.specs.Prelude.{◌≡◌, ℕ, Bool, List, true, ◌≤◌, ◌+◌, ◌-◌, length};
+ghost use Rattle.std.specs.Fn.{FnReturnsAt};
 ghost use Rattle.lists.specs.Choice.{is_some};
 ghost use Rattle.lists.specs.Write.{over};
 ghost use Rattle.keys.specs.Keys.{is_key};
 ghost use Rattle.items.specs.Items.{parse, items_in, set_item, without};
+ghost use Rattle.area_drop.specs.Drops.{Tests};
 ghost use Rattle.ape_write.specs.Answers.{written_answer, written_bytes};
 ghost use Rattle.calls.specs.Gate.{items_of};
 ghost use Rattle.calls.specs.Calls.{set_plan, remove_plan};
@@ -101,7 +103,7 @@ pub fn set_ape_item(file: &[u8], key: &[u8], value: &[u8], out: &mut [u8]) -> Re
 }
 
 // Drops the items of a file that is fit for editing whose keys pass the test. Those that stay are written into `new`.
-fn drop_items_in<T: KeyTest>(
+fn drop_keys_in<T: KeyTest>(
     file: &[u8],
     place: TagArea,
     goes: &T,
@@ -113,15 +115,15 @@ fn drop_items_in<T: KeyTest>(
         (result ≡ written_answer plan) × (out.new ≡ over (written_bytes plan) out.old) }
 {
     let area = &file[place.start..place.end];
-    let Some(left) = area_drop::measure_without(area, place.count, goes) else {
+    let Some(left) = area_drop::measure_without_keys(area, place.count, goes) else {
         return Err(Refusal::NotEditable);
     };
-    let n = area_drop::write_without(area, place.count, goes, new);
+    let n = area_drop::write_without_keys(area, place.count, goes, new);
     finish(file, &new[..n], left.count, out)
 }
 
 // The same in room that is large enough.
-pub fn drop_items<T: KeyTest>(
+pub fn drop_keys<T: KeyTest>(
     file: &[u8],
     place: TagArea,
     goes: &T,
@@ -129,6 +131,49 @@ pub fn drop_items<T: KeyTest>(
 ) -> Result<usize, Refusal>
     requires { (Passed file.now place) × (length file.now ≤ 16777216) }
     ensures { let plan = tag_plan file.now (without (T.test goes.now) (items_of file.now)) (length out.old) in
+        (result ≡ written_answer plan) × (out.new ≡ over (written_bytes plan) out.old) }
+{
+    if place.end - place.start <= SMALL_ROOM {
+        let mut new = [0u8; SMALL_ROOM];
+        return drop_keys_in(file, place, goes, &mut new, out);
+    }
+    let mut new = [0u8; ROOM];
+    drop_keys_in(file, place, goes, &mut new, out)
+}
+
+// `drop_keys_in` by a closure.
+fn drop_items_in<F: Fn(&[u8]) -> bool + Copy>(
+    file: &[u8],
+    place: TagArea,
+    goes: F,
+    new: &mut [u8],
+    out: &mut [u8],
+) -> Result<usize, Refusal>
+    requires callable { F.IsAlwaysCallable goes }
+    requires tests { (p : List ℕ → Bool) × Tests (FnReturnsAt F.Fn goes) p }
+    requires fit { (Passed file.now place) × (length file.now ≤ 16777216) × (place.end - place.start ≤ length new.old) }
+    ensures { (p : List ℕ → Bool) → Tests (FnReturnsAt F.Fn goes) p → let plan = tag_plan file.now (without p (items_of file.now)) (length out.old) in
+        (result ≡ written_answer plan) × (out.new ≡ over (written_bytes plan) out.old) }
+{
+    let area = &file[place.start..place.end];
+    let Some(left) = area_drop::measure_without(area, place.count, goes) else {
+        return Err(Refusal::NotEditable);
+    };
+    let to = area_drop::write_without(area, place.count, goes, new);
+    finish(file, &new[..to], left.count, out)
+}
+
+// `drop_keys` by a closure.
+pub fn drop_items<F: Fn(&[u8]) -> bool + Copy>(
+    file: &[u8],
+    place: TagArea,
+    goes: F,
+    out: &mut [u8],
+) -> Result<usize, Refusal>
+    requires callable { F.IsAlwaysCallable goes }
+    requires tests { (p : List ℕ → Bool) × Tests (FnReturnsAt F.Fn goes) p }
+    requires fit { (Passed file.now place) × (length file.now ≤ 16777216) }
+    ensures { (p : List ℕ → Bool) → Tests (FnReturnsAt F.Fn goes) p → let plan = tag_plan file.now (without p (items_of file.now)) (length out.old) in
         (result ≡ written_answer plan) × (out.new ≡ over (written_bytes plan) out.old) }
 {
     if place.end - place.start <= SMALL_ROOM {
@@ -151,5 +196,36 @@ pub fn remove_ape_item(file: &[u8], key: &[u8], out: &mut [u8]) -> Result<usize,
         return Err(Refusal::BadKey);
     }
     let place = gate::gate(file)?;
-    drop_items(file, place, &Same { key }, out)
+    drop_keys(file, place, &Same { key }, out)
+}
+
+#[cfg(test)]
+mod tests {
+    use super::*;
+
+    // The file without the items of this key.
+    fn without(file: &[u8], key: &[u8], out: &mut [u8]) -> Result<usize, Refusal> {
+        if replies::FILE_LIMIT < file.len() {
+            return Err(Refusal::FileTooLong);
+        }
+        let place = gate::gate(file)?;
+        drop_items(file, place, |other| keys::same_key(key, other), out)
+    }
+
+    // A file of two bytes and a tag of two items, and the same without the first of them.
+    #[test]
+    fn drops_by_a_closure(rt: HostRuntime) {
+        let file = *b"abAPETAGEX\xd0\x07\0\0\x40\0\0\0\x02\0\0\0\0\0\0\xa0\0\0\0\0\0\0\0\0\
+            \x01\0\0\0\0\0\0\0ARTIST\0x\x02\0\0\0\0\0\0\0TITLE\0yz\
+            APETAGEX\xd0\x07\0\0\x40\0\0\0\x02\0\0\0\0\0\0\x80\0\0\0\0\0\0\0\0";
+        let left = *b"abAPETAGEX\xd0\x07\0\0\x30\0\0\0\x01\0\0\0\0\0\0\xa0\0\0\0\0\0\0\0\0\
+            \x02\0\0\0\0\0\0\0TITLE\0yz\
+            APETAGEX\xd0\x07\0\0\x30\0\0\0\x01\0\0\0\0\0\0\x80\0\0\0\0\0\0\0\0................";
+        let mut out = [b'.'; 98];
+        assert!(rt; without(&file, b"artist", &mut out).is_ok_and(|n| n == 82));
+        assert!(rt; out == left);
+        let mut short = [b'.'; 81];
+        assert!(rt; without(&file, b"artist", &mut short).is_err_and(|r| r == Refusal::NoRoom));
+        assert!(rt; short == [b'.'; 81]);
+    }
 }

@@ -72,7 +72,7 @@ fn drop_length<T: KeyTest>(file: &[u8], place: TagArea, goes: &T) -> Result<usiz
         result ≡ length_answer (last_length file.now (length (area_bytes ts)) (length ts)) }
 {
     let area = &file[place.start..place.end];
-    let Some(left) = area_drop::measure_without(area, place.count, goes) else {
+    let Some(left) = area_drop::measure_without_keys(area, place.count, goes) else {
         return Err(Refusal::NotEditable);
     };
     last_length(file, left.length, left.count)

@@ -70,8 +70,8 @@ fn put_moved(area: &[u8], count: usize, moves: Moving, out: &mut [u8]) -> Size
     if moves.left.0 == moves.right.0 {
         return area_shift::write_shifted(area, count, moves.left, moves.mode, out);
     }
-    let size = area_drop::measure_without(area, count, &Undone).unwrap();
-    area_drop::write_without(area, count, &Undone, out);
+    let size = area_drop::measure_without_keys(area, count, &Undone).unwrap();
+    area_drop::write_without_keys(area, count, &Undone, out);
     size
 }
 

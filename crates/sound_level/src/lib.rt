@@ -104,7 +104,7 @@ pub fn undo_mp3(file: &[u8], out: &mut [u8]) -> Result<Leveled, Refusal>
         return Err(Refusal::HasChecksum);
     }
     let ready = checks::check_undo(file, true)?;
-    let length = edit::drop_items(file, ready.area, &Mp3gain, out)?;
+    let length = edit::drop_keys(file, ready.area, &Mp3gain, out)?;
     let undo = ready.undo;
     let back = Moving {
         left: GainSteps(undo.left),

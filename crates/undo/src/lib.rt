@@ -24,7 +24,7 @@ pub fn undo(
         × (left.new ≡ left_after plan left.old) × (right.new ≡ right_after plan right.old) }
 {
     let ready = checks::check_undo(file, 0 < left.len())?;
-    let length = edit::drop_items(file, ready.area, &Mp3gain, out)?;
+    let length = edit::drop_keys(file, ready.area, &Mp3gain, out)?;
     let undo = ready.undo;
     let mode = GainMode::from_wrap(undo.wrap);
     gains::adjust_gains(left, GainSteps(undo.left), mode);

@@ -34,10 +34,10 @@ returns-in_err-place c =
 passed : (c : In_ok-place) → Passed c.args.file.now c.in_ok-place.place
 passed c = gate-passed c.args.file.now c.gate.ensures c.in_ok-place.was
 
-pub drop_items-requires : goal.drop_items-requires
-drop_items-requires c = (passed (goal.at.drop_items-requires c).In_ok-place, c.if-file-gt-FILE_LIMIT.false)
+pub drop_keys-requires : goal.drop_keys-requires
+drop_keys-requires c = (passed (goal.at.drop_keys-requires c).In_ok-place, c.if-file-gt-FILE_LIMIT.false)
 
 pub returns : goal.returns
 returns c =
     let g = c.args in
-    rw (remove-rest g.file.now g.key.now [] (length g.out.now) c.if-file-gt-FILE_LIMIT.false (key (goal.at.returns c).Else-not-is_key) (passed (goal.at.returns c).In_ok-place).passes) c.drop_items.ensures
+    rw (remove-rest g.file.now g.key.now [] (length g.out.now) c.if-file-gt-FILE_LIMIT.false (key (goal.at.returns c).Else-not-is_key) (passed (goal.at.returns c).In_ok-place).passes) c.drop_keys.ensures

@@ -53,15 +53,15 @@ measured n s None e q = absurd (true≢false (sym e ∙ unsized (without is_undo
 measured n s (Some z) e q = refl
 
 pub unwrap-size-requires : goal.unwrap-size-requires
-unwrap-size-requires c = measured c.args.count c.args.area.now c.measure_without.result c.requires.0 c.measure_without.ensures
+unwrap-size-requires c = measured c.args.count c.args.area.now c.measure_without_keys.result c.requires.0 c.measure_without_keys.ensures
 
-pub write_without-requires-clause-room : goal.write_without-requires-clause-room
-write_without-requires-clause-room c =
-    omega (arith, ap (λ ts. length (area_bytes ts)) (apart (goal.at.write_without-requires-clause-room c).Else-moves), c.requires.1)
+pub write_without_keys-requires-clause-room : goal.write_without_keys-requires-clause-room
+write_without_keys-requires-clause-room c =
+    omega (arith, ap (λ ts. length (area_bytes ts)) (apart (goal.at.write_without_keys-requires-clause-room c).Else-moves), c.requires.1)
 
 pub returns : goal.returns
 returns c =
-    let w = c.write_without.ensures in
-    let m = c.measure_without.ensures in
+    let w = c.write_without_keys.ensures in
+    let m = c.measure_without_keys.ensures in
     let z = sized (without is_undone) c.args.count c.args.area.now c.unwrap-size.result (sym c.unwrap-size.ensures ∙ m) in
     rw (apart (goal.at.returns c).Else-moves) (z.count, z.length, w.1)

@@ -83,8 +83,8 @@ returns-in_err-ready c =
     let r : c.from_residual.result ≡ Err c.in_err-ready.field-0.0 = search rules in
     rw (r, undo-refused g.file.now (length g.out.now) c.if-file-gt-FILE_LIMIT.false f.0 f.1 (undo-not g.file.now true c.in_err-ready.ensures)) (refl, refl)
 
-pub drop_items-requires : goal.drop_items-requires
-drop_items-requires c = let r = ready (goal.at.drop_items-requires c).In_ok-ready in (r.passed, r.short)
+pub drop_keys-requires : goal.drop_keys-requires
+drop_keys-requires c = let r = ready (goal.at.drop_keys-requires c).In_ok-ready in (r.passed, r.short)
 
 pub returns-in_err-length : goal.returns-in_err-length
 unfolding others
@@ -92,7 +92,7 @@ returns-in_err-length c =
     let g = c.args in
     let t = ready (goal.at.returns-in_err-length c).In_ok-ready in
     let f = framed (goal.at.returns-in_err-length c).Else-scan in
-    let d = c.drop_items.ensures in
+    let d = c.drop_keys.ensures in
     let (lacks, why, nothing) = refused-room t.passed (length g.out.now) (sym c.in_err-length.was ∙ d.0) in
     let r : c.from_residual-in_err-length.result ≡ Err c.in_err-length.field-0.0 = search rules in
     rw (r, why, undo-5 g.file.now (length g.out.now) t.short f.0 f.1 t.text t.check lacks) (refl, d.1 ∙ ap (λ (w : List ℕ). over w g.out.now) nothing)
@@ -100,13 +100,13 @@ returns-in_err-length c =
 -- the file was written, and its gains have yet to move
 wrote : (c : In_ok-length) → let g = c.args in
     (has_room (length g.out.now) (length (replaced g.file.now (others (items_of g.file.now)))) ≡ true)
-    × Ends g.file.now (undo-ready g.file.now true c.in_ok-ready.ensures).text c.ape_tag_parts-front.result.front c.in_ok-length.length g.out.now c.drop_items.new.out
+    × Ends g.file.now (undo-ready g.file.now true c.in_ok-ready.ensures).text c.ape_tag_parts-front.result.front c.in_ok-length.length g.out.now c.drop_keys.new.out
 unfolding others
 wrote c =
     let g = c.args in
     let t = undo-ready g.file.now true c.in_ok-ready.ensures in
     let cut = cuts-as g.file.now c.ape_tag_parts-front.result c.ape_tag_parts-front.ensures in
-    let d = c.drop_items.ensures in
+    let d = c.drop_keys.ensures in
     let (fits, n, by) = done-fits t.passed (length g.out.now) (sym c.in_ok-length.was ∙ d.0) in
     (fits, ended g.file.now t.text c.ape_tag_parts-front.result.front _ cut.front-is cut.front-within g.out.now _ n (d.1 ∙ ap (λ (w : List ℕ). over w g.out.now) by))
 

@@ -30,15 +30,15 @@ returns-in_err-ready c =
     let r : c.from_residual.result ≡ Err c.in_err-ready.field-0.0 = search rules in
     rw (undo-refused g.file.now g.left.now g.right.now (length g.out.now) (ap (undo_check g.file.now) (sym (any-is g.left.now)) ∙ undo-not g.file.now (ltb 0 (length g.left.now)) c.in_err-ready.ensures), r) (refl, refl, refl, refl)
 
-pub drop_items-requires : goal.drop_items-requires
-drop_items-requires c = let r = ready (goal.at.drop_items-requires c).In_ok-ready in (r.passed, r.short)
+pub drop_keys-requires : goal.drop_keys-requires
+drop_keys-requires c = let r = ready (goal.at.drop_keys-requires c).In_ok-ready in (r.passed, r.short)
 
 pub returns-in_err-length : goal.returns-in_err-length
 unfolding others
 returns-in_err-length c =
     let g = c.args in
     let t = ready (goal.at.returns-in_err-length c).In_ok-ready in
-    let d = c.drop_items.ensures in
+    let d = c.drop_keys.ensures in
     let (b, why, nothing) = refused-room t.passed (length g.out.now) (sym c.in_err-length.was ∙ d.0) in
     let r : c.from_residual-in_err-length.result ≡ Err c.in_err-length.field-0.0 = search rules in
     rw (undo-5 g.file.now g.left.now g.right.now (length g.out.now) (ap (undo_check g.file.now) (sym (any-is g.left.now)) ∙ t.check) b, r, why)
@@ -49,7 +49,7 @@ unfolding others
 returns c =
     let g = c.args in
     let t = ready (goal.at.returns c).In_ok-ready in
-    let d = c.drop_items.ensures in
+    let d = c.drop_keys.ensures in
     let (b, n, by) = done-fits t.passed (length g.out.now) (sym c.in_ok-length.was ∙ d.0) in
     let l = ap (λ (u : StoredUndo). u.left) t.said-is in
     let r = ap (λ (u : StoredUndo). u.right) t.said-is in
@@ -70,4 +70,4 @@ pub shape_of-right : goal.shape_of-right
 shape_of-right c = c.adjust_gains-2.auto.gains
 
 pub shape_of-out : goal.shape_of-out
-shape_of-out c = c.drop_items.auto.out
+shape_of-out c = c.drop_keys.auto.out
